@@ -1,0 +1,2 @@
+-- The laws of words and their bytes. Assumes nothing.
+pub mod WordLaws
