@@ -1,0 +1,5 @@
+-- The laws that the proofs share. Assumes nothing.
+pub mod DecimalLaws
+pub mod FitLaws
+pub mod SignedLaws
+pub mod Writing

@@ -1,0 +1,7 @@
+-- What the clauses of the crate cite. Assumes nothing.
+pub mod Ascii
+pub mod Decimal
+pub mod Fit
+pub mod Frequency
+pub mod Level
+pub mod Text
