@@ -5,7 +5,7 @@
 use mathlib.Core.Path.{_≡_, refl, sym, ap, _∙_, subst}
 use mathlib.Core.List.{List, [], _∷_, _++_, append-assoc, append-nil, map}
 use Prim.Native.Nat.{ℕ, _+_, _-_, _≤_, _<_}
-use native.Mathlib.Nat.{le-refl, not-suc-le-zero, le-of-suc-le-suc}
+use native.Mathlib.Nat.{le-refl, not-suc-le-zero, le-of-suc-le-suc, sub-zero}
 use native.Mathlib.Numerals.{add-one}
 use native.Mathlib.Omega.{arith}
 use lib.ListN.{length, getD, set, take, drop, length-append, length-drop, drop-of-length-le, length-map, List·getD-map}
@@ -82,6 +82,18 @@ at-most w h = record { out = w .out; counted = w .counted; within = omega arith 
 pub bounded : {u d e : List ℕ} {n p q : ℕ} → Wrote u p d e n → n ≤ q → Wrote u q d e n
 bounded w h = record { out = w .out; counted = w .counted; within = h }
 
+-- nothing is longer or shorter for what was written
+pub same-room : {u d e : List ℕ} {n p : ℕ} → Wrote u p d e n → n ≤ length d → length e ≡ length d
+same-room {u} {d} w h = rw (w .out, length-append, length-drop) (omega arith)
+
+-- two calls that wrote the same did the same
+pub wrote-one : {u d e e′ : List ℕ} {n n′ p p′ : ℕ} → Wrote u p d e n → Wrote u p′ d e′ n′ → (e ≡ e′) × (n ≡ n′)
+wrote-one w x = (w .out ∙ sym (x .out), w .counted ∙ sym (x .counted))
+
 -- what was written stands at the front
 pub front : {u d e : List ℕ} {n p : ℕ} → Wrote u p d e n → take n e ≡ u
 front {u} {d} w = rw (w .out, w .counted) (take-append-seam u (drop (length u) d))
+
+-- the same as the part `&row[0..n]` has it
+pub front-part : {u d e : List ℕ} {n p : ℕ} → Wrote u p d e n → take (n - 0) e ≡ u
+front-part {e = e} {n} w = ap (λ (k : ℕ). take k e) (sub-zero n) ∙ front w

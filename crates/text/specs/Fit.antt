@@ -1,7 +1,7 @@
 -- "as many whole lines as fit" (document 01, What the converter takes), of any lines. Assumes nothing.
 use mathlib.Core.Path.{_≡_}
 use mathlib.Core.List.{List, [], _∷_, _++_}
-use Prim.Native.Nat.{ℕ, zero, suc, _-_, _≤_, _<_}
+use Prim.Native.Nat.{ℕ, zero, suc, _-_, _<_}
 use lib.Dec.{leb, eqb}
 use lib.ListN.{length, take}
 use Rattle.text.specs.declared.fit.Progress.{Progress}
@@ -26,7 +26,7 @@ linesFrom line k (suc n) = line k ∷ linesFrom line (suc k) n
 
 -- a call wrote `text` where it fits, and nothing where it does not
 abbrev pub TriedTo : List ℕ → List ℕ → List ℕ → Tried → Type 0
-TriedTo text before after (Put n) = (length text ≤ length before) × Wrote text (length before) before after n
+TriedTo text before after (Put n) = Wrote text (length before) before after n
 TriedTo text before after Full = (length before < length text) × (after ≡ before)
 
 -- a call wrote as many of the lines as fit, and says how many lines and bytes these are and whether they are all

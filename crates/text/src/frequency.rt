@@ -4,9 +4,9 @@ use crate::decimal::put_short;
 use crate::put::put_byte;
 ghost use mathlib.Core.Path.{_≡_};
 ghost use Prim.Native.Nat.{_≤_, _<_};
-ghost use lib.ListN.{length, getD};
+ghost use lib.ListN.{length};
 ghost use Rattle.text.specs.Text.{Wrote};
-ghost use Rattle.text.specs.Frequency.{fraction, centihertz, octaves, thirds, none};
+ghost use Rattle.text.specs.Frequency.{fraction, centihertz, octaves, thirds};
 
 // Hundredths of a hertz.
 pub struct Centihertz(pub u32);
@@ -56,10 +56,64 @@ const OCTAVES: [Centihertz; 15] = [
     Centihertz(1600000),
 ];
 
-// The 1/1 octave band i, from 0.
-pub fn octave(i: usize) -> Centihertz
-    requires { ⌜ i < 15 ⌝ }
-    ensures { λ r. ⌜ r ≡ getD octaves i none ⌝ }
+// The table whole, so that a caller takes it once for all its rows: an element of a constant costs the whole table each time.
+pub fn octaves() -> [Centihertz; 15]
+    ensures { λ r. ⌜ r ≡ octaves ⌝ }
 {
-    OCTAVES[i]
+    OCTAVES
+}
+
+// The nominal frequencies of the 1/3 octave bands.
+const THIRDS: [Centihertz; 45] = [
+    Centihertz(80),
+    Centihertz(100),
+    Centihertz(125),
+    Centihertz(160),
+    Centihertz(200),
+    Centihertz(250),
+    Centihertz(315),
+    Centihertz(400),
+    Centihertz(500),
+    Centihertz(630),
+    Centihertz(800),
+    Centihertz(1000),
+    Centihertz(1250),
+    Centihertz(1600),
+    Centihertz(2000),
+    Centihertz(2500),
+    Centihertz(3150),
+    Centihertz(4000),
+    Centihertz(5000),
+    Centihertz(6300),
+    Centihertz(8000),
+    Centihertz(10000),
+    Centihertz(12500),
+    Centihertz(16000),
+    Centihertz(20000),
+    Centihertz(25000),
+    Centihertz(31500),
+    Centihertz(40000),
+    Centihertz(50000),
+    Centihertz(63000),
+    Centihertz(80000),
+    Centihertz(100000),
+    Centihertz(125000),
+    Centihertz(160000),
+    Centihertz(200000),
+    Centihertz(250000),
+    Centihertz(315000),
+    Centihertz(400000),
+    Centihertz(500000),
+    Centihertz(630000),
+    Centihertz(800000),
+    Centihertz(1000000),
+    Centihertz(1250000),
+    Centihertz(1600000),
+    Centihertz(2000000),
+];
+
+pub fn thirds() -> [Centihertz; 45]
+    ensures { λ r. ⌜ r ≡ thirds ⌝ }
+{
+    THIRDS
 }

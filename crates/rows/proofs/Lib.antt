@@ -1,0 +1,3 @@
+-- The laws of the crate. Assumes nothing.
+pub mod BandLaws
+pub mod Examples

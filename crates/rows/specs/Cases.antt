@@ -1,0 +1,46 @@
+-- Closed examples: a text that the definitions give, beside the text that is expected. Assumes nothing.
+use mathlib.Core.List.{List, [], _∷_, _++_, map}
+use Prim.Native.Nat.{ℕ}
+use lib.ListN.{take}
+use Rattle.text.specs.Ascii.{ascii}
+use Rattle.text.specs.Decimal.{decimal}
+use Rattle.text.specs.Fit.{fit, joined}
+use Rattle.text.specs.Frequency.{hundredths, centihertz, octaves, thirds}
+use Rattle.text.specs.Level.{level, bound, tenths}
+use Rattle.text.specs.Text.{shown}
+use Rattle.words.specs.Words.{wordsOf, longAt}
+use Rattle.rows.specs.Rows.{bandLine, bandLines}
+
+-- "levels FFFB, 8000, 7FFF: -0.5, -3276.8, 3276.7. Words 0001, 0002 as a time: 131073" (document 01, checked file 5)
+unfoldable pub caseFive : List (List ℕ × List ℕ)
+caseFive =
+    (tenths (level 0xFFFB), ascii "-0.5")
+    ∷ (tenths (level 0x8000), ascii "-3276.8")
+    ∷ (tenths (level 0x7FFF), ascii "3276.7")
+    ∷ (decimal (longAt (0x0001 ∷ 0x0002 ∷ []) 0), ascii "131073")
+    ∷ []
+
+-- the ends of each range, and what is easily got wrong
+unfoldable pub more : List (List ℕ × List ℕ)
+more =
+    (decimal 0, ascii "0")
+    ∷ (decimal 9, ascii "9")
+    ∷ (decimal 10, ascii "10")
+    ∷ (decimal 4294967295, ascii "4294967295")
+    ∷ (decimal 18446744073709551615, ascii "18446744073709551615")
+    ∷ (tenths (level 0x0000), ascii "0.0")
+    ∷ (tenths (bound 0x7FFF 16319 65535), ascii "106949843.2")
+    ∷ (tenths (bound 0xFF10 3 7), ascii "-21.9")
+    ∷ (centihertz (hundredths 80), ascii "0.8")
+    ∷ (centihertz (hundredths 125), ascii "1.25")
+    ∷ (centihertz (hundredths 3150), ascii "31.5")
+    ∷ (centihertz (hundredths 2000000), ascii "20000")
+    ∷ (map shown (0x41 ∷ 0x1F ∷ 0x20 ∷ 0x7E ∷ 0x7F ∷ []), ascii "A? ~?")
+    ∷ (decimal (longAt (wordsOf (0x01 ∷ 0x00 ∷ 0x02 ∷ 0x00 ∷ 0xFF ∷ [])) 0), ascii "131073")
+    ∷ (joined (take (fit 15 bandLines) bandLines), ascii "0.8\n1\n1.25\n1.6\n")
+    ∷ (joined (take (fit 14 bandLines) bandLines), ascii "0.8\n1\n1.25\n")
+    ∷ (joined (map bandLine octaves), ascii "1\n2\n4\n8\n16\n31.5\n63\n125\n250\n500\n1000\n2000\n4000\n8000\n16000\n")
+    ∷ []
+
+unfoldable pub cases : List (List ℕ × List ℕ)
+cases = caseFive ++ more

@@ -1,0 +1,128 @@
+// One row of each kind of text, from literal values, and the lines of the 1/3 octave bands as many at a time as fit.
+use libc::STDOUT_FILENO;
+use text::decimal::put_decimal;
+use text::fit::Progress;
+use text::fit::Tried;
+use text::fit::put_line;
+use text::frequency::Centihertz;
+use text::frequency::put_centihertz;
+use text::frequency::thirds;
+use text::level::Tenths;
+use text::level::put_tenths;
+use text::put::put_byte;
+use text::put::put_text;
+ghost use mathlib.Core.Path.{_≡_};
+ghost use mathlib.Core.List.{map};
+ghost use Prim.Native.Nat.{_-_, _≤_};
+ghost use lib.ListN.{length, drop};
+ghost use Rattle.text.specs.Text.{Wrote};
+ghost use Rattle.text.specs.Fit.{TriedTo, Filled};
+ghost use Rattle.rows.specs.Rows.{bandLine, bandLines};
+
+// A band's frequency, and the line's end.
+fn put_band(out: &mut [u8], f: Centihertz) -> usize
+    requires { ⌜ 13 ≤ length (now out) ⌝ }
+    ensures { λ r. ⌜ Wrote (bandLine f) 13 (now (out .entry)) (now (out .exit)) r ⌝ }
+{
+    let a = put_centihertz(out, f);
+    a + put_byte(&mut out[a..], b'\n')
+}
+
+// The same where it fits: made in a row of its own, since its length decides.
+fn try_band(out: &mut [u8], f: Centihertz) -> Tried
+    ensures { λ r. ⌜ TriedTo (bandLine f) (now (out .entry)) (now (out .exit)) r ⌝ }
+{
+    let mut row = [0u8; 13];
+    let n = put_band(&mut row, f);
+    put_line(out, &row[0..n])
+}
+
+// How many bands there are from band `first` on.
+fn bands_from(first: u32) -> u32
+    ensures { λ r. ⌜ r ≡ 45 - first ⌝ }
+{
+    if first < 45 { 45 - first } else { 0 }
+}
+
+// As many bands, from band `first` on, as fit.
+fn put_bands(out: &mut [u8], first: u32) -> Progress
+    ensures { λ r. ⌜ Filled (drop first bandLines) (now (out .entry)) (now (out .exit)) r ⌝ }
+{
+    let bands = thirds();
+    let count = bands_from(first);
+    let mut at = 0;
+    let mut i = 0u32;
+    while i < count {
+        let band = bands[(first + i) as usize];
+        let tried = try_band(&mut out[at..], band);
+        let Tried::Put(n) = tried else {
+            return Progress {
+                lines: i,
+                bytes: at,
+                finished: false,
+            };
+        };
+        at += n;
+        i += 1;
+    }
+    Progress {
+        lines: i,
+        bytes: at,
+        finished: true,
+    }
+}
+
+// A row of standard output: what kind of text it shows, and the text.
+fn print(kind: &[u8], out: &[u8], n: usize) {
+    io::write_all(STDOUT_FILENO, kind);
+    if n <= out.len() {
+        io::write_all(STDOUT_FILENO, &out[0..n]);
+    }
+    io::write_all(STDOUT_FILENO, b"\n");
+}
+
+fn print_text(text: &[u8; 8]) {
+    let mut out = [0u8; 8];
+    let n = put_text(&mut out, text);
+    print(b"text,", &out, n);
+}
+
+fn print_decimal(kind: &[u8], v: u64) {
+    let mut out = [0u8; 20];
+    let n = put_decimal(&mut out, v);
+    print(kind, &out, n);
+}
+
+fn print_level(kind: &[u8], t: Tenths) {
+    let mut out = [0u8; 12];
+    let n = put_tenths(&mut out, t);
+    print(kind, &out, n);
+}
+
+fn print_frequency(f: Centihertz) {
+    let mut out = [0u8; 12];
+    let n = put_centihertz(&mut out, f);
+    print(b"frequency,", &out, n);
+}
+
+// The lines of the bands that fit into 16 bytes, and how many these are.
+fn print_bands(first: u32) {
+    let mut out = [0u8; 16];
+    let p = put_bands(&mut out, first);
+    let n = p.bytes;
+    print(b"bands\n", &out, n);
+    print_decimal(b"lines,", p.lines as u64);
+}
+
+fn main() {
+    print_text(b"Hall\x1F\x7F~ ");
+    print_decimal(b"number,", 18446744073709551615);
+    print_decimal(b"time,", words::long(b"\x01\x00\x02\x00", 0) as u64);
+    print_level(b"level,", Tenths::level(words::word(b"\xFB\xFF", 0)));
+    print_level(b"level,", Tenths::level(0x8000));
+    print_level(b"bound,", Tenths::bound(0x7FFF, 16319, 65535));
+    print_frequency(Centihertz(3150));
+    print_bands(0);
+    print_bands(43);
+    print_bands(45);
+}
