@@ -3,7 +3,7 @@ use libc::STDOUT_FILENO;
 use text::decimal::put_decimal;
 use text::fit::Progress;
 use text::fit::Tried;
-use text::fit::put_line;
+use text::fit::try_line;
 use text::frequency::Centihertz;
 use text::frequency::put_centihertz;
 use text::frequency::thirds;
@@ -34,7 +34,7 @@ fn try_band(out: &mut [u8], f: Centihertz) -> Tried
 {
     let mut row = [0u8; 13];
     let n = put_band(&mut row, f);
-    put_line(out, &row[0..n])
+    try_line(out, &row[0..n])
 }
 
 // How many bands there are from band `first` on.

@@ -1,15 +1,15 @@
--- Laws of `decimal`: it reads back as its number; and for a loop that makes the digits from the last to the first, in a row,
+-- Laws of `decimal` for a loop that makes the digits from the last to the first, in a row,
 --     turn            a digit more in front of those that stand at the end of the row, and a tenth of the number
 --     some, fewer     a number of at most `at` digits, at a turn
 --     done            no digit is left
 -- Assumes nothing.
 use mathlib.Core.Path.{_≡_, refl, sym, ap, _∙_}
 use mathlib.Core.List.{List, [], _∷_, _++_, append-assoc}
-use Prim.Native.Nat.{ℕ, zero, suc, _+_, _-_, _*_, _/_, _%_, _^_, _≤_, _<_}
+use Prim.Native.Nat.{ℕ, zero, suc, _+_, _-_, _/_, _%_, _^_, _≤_, _<_}
 use native.Mathlib.Nat.{le-refl, not-suc-le-zero, le-of-suc-le-suc, pow-suc}
 use native.Mathlib.Omega.{arith}
 use lib.ListN.{length, drop, set, length-append}
-use Rattle.text.specs.Decimal.{lastDigit, digits, decimal, read}
+use Rattle.text.specs.Decimal.{lastDigit, digits, decimal}
 
 -- steps that are no fewer than the number are enough
 digits-enough : (k j n : ℕ) → n ≤ k → n ≤ j → digits k n ≡ digits j n
@@ -67,30 +67,3 @@ digits-length (suc k) (suc j) (suc n) h =
 pub decimal-length : (k n : ℕ) → n < 10 ^ suc k → length (decimal n) ≤ suc k
 unfolding decimal
 decimal-length k n h = rw length-append (omega (arith, digits-length k (n / 10) (n / 10) (omega (arith, pow-suc 10 k))))
-
--- ---- what `decimal` means
-
-read-append : (n : ℕ) (s t : List ℕ) → read n (s ++ t) ≡ read (read n s) t
-unfolding read
-read-append n [] t = refl
-read-append n (d ∷ s) t = read-append (10 * n + (d - 48)) s t
-
-read-last : (n : ℕ) → read (n / 10) (lastDigit n) ≡ n
-unfolding read
-read-last n = omega arith
-
-read-digits : (k n : ℕ) → n ≤ k → read 0 (digits k n) ≡ n
-unfolding digits read
-read-digits zero n h = omega arith
-read-digits (suc k) zero h = refl
-read-digits (suc k) (suc n) h =
-    read-append 0 (digits k (suc n / 10)) (lastDigit (suc n))
-    ∙ ap (λ m. read m (lastDigit (suc n))) (read-digits k (suc n / 10) (omega arith))
-    ∙ read-last (suc n)
-
-pub decimal-reads : (n : ℕ) → read 0 (decimal n) ≡ n
-unfolding decimal
-decimal-reads n =
-    read-append 0 (digits (n / 10) (n / 10)) (lastDigit n)
-    ∙ ap (λ m. read m (lastDigit n)) (read-digits (n / 10) (n / 10) (le-refl (n / 10)))
-    ∙ read-last n

@@ -17,7 +17,7 @@ pub enum Tried {
 }
 
 // A line that is made already, where it fits.
-pub fn put_line(out: &mut [u8], line: &[u8]) -> Tried
+pub fn try_line(out: &mut [u8], line: &[u8]) -> Tried
     ensures { λ r. ⌜ TriedTo (now (line .entry)) (now (out .entry)) (now (out .exit)) r ⌝ }
 {
     if line.len() <= out.len() {

@@ -76,6 +76,20 @@ bytes-take zero ws = refl
 bytes-take (suc n) [] = rw take-nil
 bytes-take (suc n) (w ∷ ws) = rw (twice-suc n) (ap (λ l. low w ∷ (high w ∷ l)) (bytes-take n ws))
 
+pub byte-low : (ws : List ℕ) (i : ℕ) → getD (bytesOf ws) (2 * i) 0 ≡ low (getD ws i 0)
+unfolding bytesOf
+byte-low [] i = refl
+byte-low (w ∷ ws) zero = refl
+byte-low (w ∷ ws) (suc i) = rw (twice-suc i) (byte-low ws i)
+
+pub byte-high : (ws : List ℕ) (i : ℕ) → getD (bytesOf ws) (2 * i + 1) 0 ≡ high (getD ws i 0)
+unfolding bytesOf
+byte-high [] i = refl
+byte-high (w ∷ ws) zero = refl
+byte-high (w ∷ ws) (suc i) =
+    let e : 2 * suc i + 1 ≡ suc (suc (2 * i + 1)) = omega arith in
+    rw e (byte-high ws i)
+
 -- ---- there and back
 
 -- each number of a list is below n

@@ -11,15 +11,21 @@ returns c =
     let c₂ = c .before .before in
     let c₁ = c₂ .before .before .before .before in
     let m = c₁ .before .before .before in
-    let f = m .before .before .fits .v in
-    text-is (c₁ .put-byte .ensures then c₂ .put-fixed .ensures) (text-negative _ _ (rw (toZ-ofZ f) at (c₁ .before .before .if1 .taken)) (rw (toZ-ofZ f) at (m .magnitude .ensures .0)))
+    let s = m .before .before in
+    let back = toZ-ofZ (s .fits .v) in
+    text-is (c₁ .put-byte .ensures then c₂ .put-fixed .ensures)
+    (text-negative (s .args .v) (m .magnitude .result) (rw back at (c₁ .before .before .if1 .taken)) (rw back at (m .magnitude .ensures .0)))
 
 returns-2 : tie.Need-returns-2
 returns-2 c =
     let c₁ = c .before .before in
     let m = c₁ .before .before .before in
-    let f = m .before .before .fits .v in
-    at-most (text-is (c₁ .put-fixed2 .ensures) (text-positive _ _ (rw (toZ-ofZ f) at (c₁ .before .before .if1 .left)) (rw (toZ-ofZ f) at (m .magnitude .ensures .0)))) (search needs)
+    let s = m .before .before in
+    let back = toZ-ofZ (s .fits .v) in
+    at-most
+    (text-is (c₁ .put-fixed2 .ensures)
+    (text-positive (s .args .v) (m .magnitude .result) (rw back at (c₁ .before .before .if1 .left)) (rw back at (m .magnitude .ensures .0))))
+    (search needs)
 
 pub put-signed-spec : {M : Type 1} → statement M
 put-signed-spec =

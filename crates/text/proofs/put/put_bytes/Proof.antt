@@ -9,8 +9,6 @@ use Rattle.text.specs.Text.{Wrote}
 use Rattle.text.proofs.Writing.{nothing, push, text-is, take-more, at-most}
 use Rattle.text.proofs.put.put_bytes.Statement.{statement}
 use Rattle.text.proofs.put.put_bytes.Tie as tie
-use Rattle.text.proofs.put.put_bytes.Reads as reads
-use Rattle.text.proofs.put.put_bytes.Lts as lts
 
 abbrev Inv-loop : tie.InvT-loop
 Inv-loop out₀ src i₀ out i = (i ≤ length src) × (length out ≡ length out₀) × Wrote (take i src) i out₀ out i
