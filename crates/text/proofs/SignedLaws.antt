@@ -1,7 +1,7 @@
 -- Laws of signed numbers: a word in two's complement, a sum, and a number's size and sign. Assumes nothing.
 use mathlib.Core.Bool.{Bool, true, false, cond}
-use mathlib.Core.List.{_++_}
-use mathlib.Core.Path.{_≡_, sym, ap, _∙_}
+use mathlib.Core.List.{_∷_}
+use mathlib.Core.Path.{_≡_, ap, ap₂}
 use Prim.Native.Nat.{ℕ, suc, _+_, _-_, _*_, _^_, _≤_, _<_}
 use native.Mathlib.Nat.{not-suc-le-zero, zero-add, mul-le-mul}
 use native.Mathlib.Omega.{arith}
@@ -12,7 +12,6 @@ use lib.Signed.{ltZ, nonNeg, mag}
 use mir.Syntax.{Width, w16, w32, w64}
 use mir.Val.{SFits, toZ, ofZ, hbits}
 use mir.Facts.{toZ-ofZ, sfits-widen}
-use Rattle.text.specs.Ascii.{ascii}
 use Rattle.text.specs.Level.{signed, fixed, signedFixed}
 
 -- what a cast to a wider type reads back
@@ -62,10 +61,10 @@ not-negative (negsuc n) t = absurd (never t)
     never e = let z : _≡_ {A = ℕ} 0 1 = cc in omega arith
 
 -- the text of tenths by their sign and their size
-pub text-negative : (z : ℤ) (n : ℕ) → ltZ z (pos 0) ≡ true → n ≡ natAbs z → ascii "-" ++ fixed n ≡ signedFixed z
+pub text-negative : (z : ℤ) (n b : ℕ) → b ≡ 45 → ltZ z (pos 0) ≡ true → n ≡ natAbs z → b ∷ fixed n ≡ signedFixed z
 unfolding signedFixed
-text-negative (pos m) n t e = absurd (not-suc-le-zero (ltb-true m 0 t))
-text-negative (negsuc m) n t e = ap (λ k. ascii "-" ++ fixed k) e
+text-negative (pos m) n b s t e = absurd (not-suc-le-zero (ltb-true m 0 t))
+text-negative (negsuc m) n b s t e = ap₂ (λ c k. c ∷ fixed k) s e
 
 pub text-positive : (z : ℤ) (n : ℕ) → ltZ z (pos 0) ≡ false → n ≡ natAbs z → fixed n ≡ signedFixed z
 unfolding signedFixed

@@ -1,6 +1,5 @@
 // Whole lines, as many as fit.
 use crate::put::put_bytes;
-ghost use Prim.Native.Nat.{_≤_};
 ghost use Rattle.text.specs.Fit.{TriedTo};
 
 // How far a call came.

@@ -150,7 +150,7 @@ pub none-holds : (ws : List ℕ) (k : ℕ) → length ws ≤ k → Holds (drop k
 unfolding wordsOf bytesOf
 none-holds ws k h = rw (drop-of-length-le ws {i = k} h) (record { words = refl; bytes = refl })
 
--- the 32-bit number at word i is the first one from there on
-pub long-rest : (ws : List ℕ) (i : ℕ) → longAt (drop i ws) 0 ≡ longAt ws i
+-- the 32-bit number at word i, from the two words at the front of those from i on
+pub long-from : (ws vs : List ℕ) (i x y : ℕ) → vs ≡ drop i ws → x ≡ getD vs 0 0 → y ≡ getD vs 1 0 → x + 65536 * y ≡ longAt ws i
 unfolding longAt
-long-rest ws i = simp (getD-drop, add-zero)
+long-from ws vs i x y e f g = rw (f, g, e) (simp (getD-drop, add-zero))

@@ -38,7 +38,7 @@ returns c =
     let a = c .before .before .before .before in
     let l = a .before .before .before .before in
     let first = l .before .before .before .before .args .first in
-    full (l .loop .inv .1) (omega (arith, lines-length first)) (line-at _ first (l .loop .i) _ (l .before .before .thirds .ensures) (omega arith)) (rw (c .enum-told .given .1) at (a .try-band .ensures))
+    full {f = a .try-band .last .0} (l .loop .inv .1) (omega (arith, lines-length first)) (line-at _ first (l .loop .i) _ (l .before .before .thirds .ensures) (omega arith)) (rw (c .enum-told .given .1) at (a .try-band .ensures))
 
 returns-2 : tie.Need-returns-2 Inv-loop μ-loop
 returns-2 c = ended (c .before .loop .inv .1) (omega (arith, lines-length (c .before .before .before .before .before .args .first)))

@@ -1,5 +1,6 @@
 -- `level::put_signed` meets its contract. Assumes nothing.
 use borrow.Author.Needs.{needs}
+use mathlib.Core.Path.{refl}
 use mir.Facts.{toZ-ofZ}
 use Rattle.text.proofs.Writing.{_then_, text-is, at-most}
 use Rattle.text.proofs.SignedLaws.{text-negative, text-positive}
@@ -14,7 +15,7 @@ returns c =
     let s = m .before .before in
     let back = toZ-ofZ (s .fits .v) in
     text-is (c₁ .put-byte .ensures then c₂ .put-fixed .ensures)
-    (text-negative (s .args .v) (m .magnitude .result) (rw back at (c₁ .before .before .if1 .taken)) (rw back at (m .magnitude .ensures .0)))
+    (text-negative (s .args .v) (m .magnitude .result) _ refl (rw back at (c₁ .before .before .if1 .taken)) (rw back at (m .magnitude .ensures .0)))
 
 returns-2 : tie.Need-returns-2
 returns-2 c =
