@@ -71,12 +71,12 @@ fn put_bands(out: &mut [u8], first: u32) -> Progress
     }
 }
 
-// A row of standard output: what kind of text it shows, and the text.
-fn print(kind: &[u8], out: &[u8], n: usize) {
+// A row of standard output: what kind of text it shows, and the text, which is the first n bytes of out.
+fn print(kind: &[u8], out: &[u8], n: usize)
+    requires { ⌜ n ≤ length (now out) ⌝ }
+{
     io::write_all(STDOUT_FILENO, kind);
-    if n <= out.len() {
-        io::write_all(STDOUT_FILENO, &out[0..n]);
-    }
+    io::write_all(STDOUT_FILENO, &out[0..n]);
     io::write_all(STDOUT_FILENO, b"\n");
 }
 

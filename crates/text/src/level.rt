@@ -41,6 +41,7 @@ impl Tenths {
     }
 }
 
+// The size of v without its sign. The least i32 has one too, in 64 bits.
 fn magnitude(v: i32) -> u64
     ensures { λ r. ⌜ (r ≡ natAbs v) × (r < 10 ^ 10) ⌝ }
 {

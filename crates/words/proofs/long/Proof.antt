@@ -1,11 +1,15 @@
 -- `words::long` meets its contract. Assumes nothing.
 use borrow.Author.Needs.{needs}
+use Rattle.words.specs.Words.{wordsOf}
 use Rattle.words.proofs.WordLaws.{long-from}
 use Rattle.words.proofs.long.Statement.{statement}
 use Rattle.words.proofs.long.Tie as tie
 
 returns : tie.Need-returns
-returns c = long-from _ _ _ _ _ (c .before .before .rest .ensures .words) (c .before .word .ensures) (c .word2 .ensures)
+returns c =
+    let field = c .before .before in
+    let args = field .before .before .args in
+    long-from (wordsOf (args .bytes .now)) _ (args .i) _ _ (field .rest .ensures .words) (c .before .word .ensures) (c .word2 .ensures)
 
 pub long-spec : {M : Type 1} → statement M
 long-spec =
