@@ -1,4 +1,5 @@
 -- Laws of `decimal` for a loop that makes the digits from the last to the first, in a row,
+--     start           the last digit stands in the row
 --     turn            a digit more in front of those that stand at the end of the row, and a tenth of the number
 --     some, fewer     a number of at most `at` digits, at a turn
 --     done            no digit is left
@@ -29,6 +30,10 @@ step zero t h = absurd (not-suc-le-zero h)
 step (suc n) t h =
     append-assoc (digits n (suc n / 10)) (lastDigit (suc n)) t
     ∙ ap (λ l. l ++ ((48 + suc n % 10) ∷ t)) (digits-enough n (suc n / 10) (suc n / 10) (omega arith) (le-refl (suc n / 10)))
+
+pub start : (v b : ℕ) → b ≡ 48 + v % 10 → digits (v / 10) (v / 10) ++ (b ∷ []) ≡ decimal v
+unfolding decimal
+start v b e = ap (λ d. digits (v / 10) (v / 10) ++ (d ∷ [])) e
 
 drop-set : (l : List ℕ) (i b : ℕ) → i < length l → drop i (set l i b) ≡ b ∷ drop (suc i) l
 drop-set [] i b h = absurd (not-suc-le-zero h)

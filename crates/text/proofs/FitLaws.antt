@@ -1,5 +1,5 @@
 -- Laws of whole lines: what `fit` means, one line more, and the lines of a list. Assumes nothing.
-use mathlib.Core.Bool.{Bool, true, false}
+use mathlib.Core.Bool.{Bool, true, false, cond}
 use mathlib.Core.Path.{_≡_, refl, sym, ap, ap₂, _∙_}
 use mathlib.Core.List.{List, [], _∷_, _++_, append-assoc, append-nil, map, map-append}
 use Prim.Native.Nat.{ℕ, zero, suc, _+_, _-_, _≤_, _<_, zero-le}
@@ -12,13 +12,12 @@ use lib.ListN.{length, getD, take, drop, length-append, drop-of-length-le}
 use lib.Seq.{take-suc, drop-cons}
 use Rattle.text.specs.declared.fit.Progress.{Progress}
 use Rattle.text.specs.Fit.{fit, joined, linesFrom, Filled}
-use Rattle.text.specs.Text.{pick}
 use Rattle.text.proofs.Writing.{text-is, wrote-one}
 
 -- ---- what `fit` means: so many lines fit, and one line more would not
 
 fits-so-far : (room : ℕ) (l : List ℕ) (ls : List (List ℕ)) (b : Bool) (n : ℕ) → leb (length l) room ≡ b
-    → length (joined (take n ls)) ≤ room - length l → length (joined (take (pick b (suc n) 0) (l ∷ ls))) ≤ room
+    → length (joined (take n ls)) ≤ room - length l → length (joined (take (cond b (suc n) 0) (l ∷ ls))) ≤ room
 unfolding joined
 fits-so-far room l ls true n e r = rw length-append (omega (arith, leb-true (length l) room e))
 fits-so-far room l ls false n e r = zero-le
@@ -30,7 +29,7 @@ fit-fits room (l ∷ ls) = fits-so-far room l ls (leb (length l) room) (fit (roo
 
 one-more : (room : ℕ) (l : List ℕ) (ls : List (List ℕ)) (b : Bool) (n : ℕ) → leb (length l) room ≡ b
     → (n < length ls → room - length l < length (joined (take (suc n) ls)))
-    → pick b (suc n) 0 < suc (length ls) → room < length (joined (take (suc (pick b (suc n) 0)) (l ∷ ls)))
+    → cond b (suc n) 0 < suc (length ls) → room < length (joined (take (suc (cond b (suc n) 0)) (l ∷ ls)))
 unfolding joined
 one-more room l ls true n e r h = rw length-append (omega (arith, leb-true (length l) room e, r (le-of-suc-le-suc h)))
 one-more room l ls false n e r h = rw length-append (omega (arith, leb-false (length l) room e))

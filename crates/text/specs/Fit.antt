@@ -1,4 +1,5 @@
 -- "as many whole lines as fit" (document 01, What the converter takes), of any lines. Assumes nothing.
+use mathlib.Core.Bool.{cond}
 use mathlib.Core.Path.{_≡_}
 use mathlib.Core.List.{List, [], _∷_, _++_}
 use Prim.Native.Nat.{ℕ, zero, suc, _-_, _<_}
@@ -7,12 +8,12 @@ use lib.ListN.{length, take}
 use Rattle.text.specs.declared.fit.Progress.{Progress}
 use Rattle.text.specs.declared.fit.Tried.{Tried}
 use Rattle.text.specs.declared.fit.Tried.the-variants.{Put, Full}
-use Rattle.text.specs.Text.{Wrote, pick}
+use Rattle.text.specs.Text.{Wrote}
 
 -- how many lines fit into `room` bytes: from the first on, whole, until one is longer than what is left
 unfoldable pub fit : ℕ → List (List ℕ) → ℕ
 fit room [] = 0
-fit room (l ∷ ls) = pick (leb (length l) room) (suc (fit (room - length l) ls)) 0
+fit room (l ∷ ls) = cond (leb (length l) room) (suc (fit (room - length l) ls)) 0
 
 -- the lines one after another
 unfoldable pub joined : List (List ℕ) → List ℕ

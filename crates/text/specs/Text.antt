@@ -1,15 +1,10 @@
 -- What a writer does: it puts a text at the front of what it is lent, and leaves the rest as it was. Assumes nothing.
-use mathlib.Core.Bool.{Bool, true, false}
+use mathlib.Core.Bool.{cond}
 use mathlib.Core.Path.{_≡_}
 use mathlib.Core.List.{List, _++_}
 use Prim.Native.Nat.{ℕ, _≤_}
 use lib.Dec.{ltb}
 use lib.ListN.{length, drop}
-
--- the first where the test holds, else the second
-abbrev pub pick : {A : Type 0} → Bool → A → A → A
-pick true a b = a
-pick false a b = b
 
 -- `text` at the front of `before`, and `before` from there on
 abbrev pub over : List ℕ → List ℕ → List ℕ
@@ -23,4 +18,4 @@ pub record Wrote (text : List ℕ) (most : ℕ) (before after : List ℕ) (count
 
 -- "Text bytes outside 20 to 7E print as `?`" (document 01, Words and numbers); 63 is `?`
 abbrev pub shown : ℕ → ℕ
-shown b = pick (ltb b 0x20) 63 (pick (ltb 0x7E b) 63 b)
+shown b = cond (ltb b 0x20) 63 (cond (ltb 0x7E b) 63 b)

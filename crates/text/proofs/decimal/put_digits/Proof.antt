@@ -6,7 +6,7 @@ use Prim.Native.Nat.{_≤_, _<_, _-_, _^_}
 use native.Mathlib.Omega.{arith}
 use lib.ListN.{length, drop, length-set, take}
 use Rattle.text.specs.Decimal.{digits, decimal}
-use Rattle.text.proofs.DecimalLaws.{turn, some, fewer, done}
+use Rattle.text.proofs.DecimalLaws.{start, turn, some, fewer, done}
 use Rattle.text.proofs.Writing.{rest-of}
 use Rattle.text.proofs.decimal.put_digits.Statement.{statement}
 use Rattle.text.proofs.decimal.put_digits.Tie as tie
@@ -18,8 +18,7 @@ abbrev μ-loop : tie.MeasureT-loop
 μ-loop out v row₀ at₀ n₀ row at n = n
 
 loop-holds : tie.Need-loop-holds Inv-loop μ-loop
-unfolding decimal
-loop-holds c = (search needs, search needs, refl, rw (c .digit .ensures))
+loop-holds c = (search needs, search needs, refl, start (c .before .before .args .v) _ (c .digit .ensures))
 
 sub-at : tie.Need-sub-at Inv-loop μ-loop
 sub-at c = let l = c .before .loop in some (l .n) (l .at) (c .loop-test .taken) (l .inv .1)
