@@ -5,8 +5,8 @@ use Prim.Native.Nat.{ℕ, _+_, _-_, _<_}
 use native.Mathlib.Omega.{arith}
 use lib.ListN.{length, getD, drop, length-drop}
 use lib.Seq.{getD-drop}
-use Rattle.text.specs.declared.frequency.Centihertz.{Centihertz}
-use Rattle.text.specs.Frequency.{thirds}
+use Rattle.units.specs.declared.frequency.Centihertz.{Centihertz}
+use Rattle.units.specs.Frequency.{thirds}
 use Rattle.text.proofs.FitLaws.{map-at}
 use Rattle.rows.specs.Rows.{bandLine, bandLines}
 

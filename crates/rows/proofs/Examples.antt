@@ -3,8 +3,8 @@ use mathlib.Core.Path.{_≡_, refl}
 use mathlib.Core.List.{map}
 use Rattle.text.specs.Decimal.{digits, decimal}
 use Rattle.text.specs.Fit.{fit, joined}
-use Rattle.text.specs.Frequency.{fraction, centihertz, octaves, thirds}
-use Rattle.text.specs.Level.{signed, level, bound, fixed, signedFixed, tenths}
+use Rattle.units.specs.Frequency.{fraction, centihertz, octaves, thirds}
+use Rattle.units.specs.Level.{signed, level, bound, fixed, signedFixed, tenths}
 use Rattle.words.specs.Words.{wordsOf, longAt}
 use Rattle.rows.specs.Rows.{bandLine, bandLines}
 use Rattle.rows.specs.Cases.{caseFive, more, cases}

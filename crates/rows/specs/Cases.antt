@@ -5,8 +5,8 @@ use lib.ListN.{take}
 use Rattle.text.specs.Ascii.{ascii}
 use Rattle.text.specs.Decimal.{decimal}
 use Rattle.text.specs.Fit.{fit, joined}
-use Rattle.text.specs.Frequency.{hundredths, centihertz, octaves}
-use Rattle.text.specs.Level.{level, bound, tenths}
+use Rattle.units.specs.Frequency.{hundredths, centihertz, octaves}
+use Rattle.units.specs.Level.{level, bound, tenths}
 use Rattle.text.specs.Text.{shown}
 use Rattle.words.specs.Words.{wordsOf, longAt}
 use Rattle.rows.specs.Rows.{bandLine, bandLines}

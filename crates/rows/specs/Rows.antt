@@ -2,8 +2,8 @@
 use mathlib.Core.List.{List, _++_, map}
 use Prim.Native.Nat.{ℕ}
 use Rattle.text.specs.Ascii.{ascii}
-use Rattle.text.specs.Frequency.{centihertz, thirds}
-use Rattle.text.specs.declared.frequency.Centihertz.{Centihertz}
+use Rattle.units.specs.Frequency.{centihertz, thirds}
+use Rattle.units.specs.declared.frequency.Centihertz.{Centihertz}
 
 unfoldable pub bandLine : Centihertz → List ℕ
 bandLine f = centihertz f ++ ascii "\n"

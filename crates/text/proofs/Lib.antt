@@ -3,5 +3,4 @@ pub mod DecimalLaws
 pub mod DecimalMeans
 pub mod Filling
 pub mod FitLaws
-pub mod SignedLaws
 pub mod Writing

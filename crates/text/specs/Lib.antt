@@ -2,6 +2,4 @@
 pub mod Ascii
 pub mod Decimal
 pub mod Fit
-pub mod Frequency
-pub mod Level
 pub mod Text

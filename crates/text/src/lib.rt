@@ -1,6 +1,4 @@
 // Writers of text. A writer is lent the output from its first free byte on, writes one text there, and answers its length.
 pub mod decimal;
 pub mod fit;
-pub mod frequency;
-pub mod level;
 pub mod put;
