@@ -11,7 +11,7 @@ use lib.Dec.{eqb, leb}
 use lib.ListN.{length, getD, take, drop, length-append, drop-of-length-le}
 use lib.Seq.{take-suc, drop-cons}
 use Rattle.text.specs.declared.fit.Progress.{Progress}
-use Rattle.text.specs.Fit.{fit, joined, linesFrom, Filled}
+use Rattle.text.specs.Fit.{fit, joined, Filled}
 use Rattle.text.proofs.Writing.{text-is, wrote-one}
 
 -- ---- what `fit` means: so many lines fit, and one line more would not
@@ -50,12 +50,6 @@ pub joined-next : (ls : List (List ℕ)) (i : ℕ) → i < length ls → joined 
 unfolding joined
 joined-next ls i h = rw (add-one, take-suc ls i [], joined-append, append-nil)
 
--- a list written element by element, each as the text that f gives it
-pub map-next : {A : Type 0} (f : A → List ℕ) (xs : List A) (i : ℕ) (z : A) → i < length xs
-    → joined (map f (take i xs)) ++ f (getD xs i z) ≡ joined (map f (take (i + 1) xs))
-unfolding joined
-map-next f xs i z h = rw (add-one, take-suc xs i z, map-append, joined-append, append-nil)
-
 pub fit-next : (room i : ℕ) (ls : List (List ℕ)) → i < length ls → length (getD ls i []) ≤ room
     → fit room (drop i ls) ≡ suc (fit (room - length (getD ls i [])) (drop (i + 1) ls))
 unfolding fit
@@ -69,23 +63,18 @@ pub fit-none : (room i : ℕ) (ls : List (List ℕ)) → length ls ≤ i → fit
 unfolding fit
 fit-none room i ls h = rw (drop-of-length-le ls h)
 
--- ---- the lines of a list's elements, and `linesFrom`
+-- ---- the lines of a list's elements
 
 pub map-at : {A : Type 0} (f : A → List ℕ) (xs : List A) (i : ℕ) (z : A) → i < length xs → getD (map f xs) i [] ≡ f (getD xs i z)
 map-at f [] i z h = absurd (not-suc-le-zero h)
 map-at f (x ∷ xs) zero z h = refl
 map-at f (x ∷ xs) (suc i) z h = map-at f xs i z (le-of-suc-le-suc h)
 
-pub length-lines : (line : ℕ → List ℕ) (k n : ℕ) → length (linesFrom line k n) ≡ n
-unfolding linesFrom
-length-lines line k zero = refl
-length-lines line k (suc n) = ap suc (length-lines line (suc k) n)
-
-pub line-at : (line : ℕ → List ℕ) (k n i : ℕ) → i < n → getD (linesFrom line k n) i [] ≡ line (k + i)
-unfolding linesFrom
-line-at line k zero i h = absurd (not-suc-le-zero h)
-line-at line k (suc n) zero h = ap line (omega arith)
-line-at line k (suc n) (suc i) h = line-at line (suc k) n i (le-of-suc-le-suc h) ∙ ap line (omega arith)
+-- a list written element by element, each as the text that f gives it
+pub map-next : {A : Type 0} (f : A → List ℕ) (xs : List A) (i : ℕ) (z : A) → i < length xs
+    → joined (map f (take i xs)) ++ f (getD xs i z) ≡ joined (map f (take (i + 1) xs))
+unfolding joined
+map-next f xs i z h = rw (add-one, take-suc xs i z, map-append, joined-append, append-nil)
 
 -- ---- two calls that filled an output with the same lines did the same
 

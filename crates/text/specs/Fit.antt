@@ -2,7 +2,7 @@
 use mathlib.Core.Bool.{cond}
 use mathlib.Core.Path.{_≡_}
 use mathlib.Core.List.{List, [], _∷_, _++_}
-use Prim.Native.Nat.{ℕ, zero, suc, _-_, _<_}
+use Prim.Native.Nat.{ℕ, suc, _-_, _<_}
 use lib.Dec.{leb, eqb}
 use lib.ListN.{length, take}
 use Rattle.text.specs.declared.fit.Progress.{Progress}
@@ -19,11 +19,6 @@ fit room (l ∷ ls) = cond (leb (length l) room) (suc (fit (room - length l) ls)
 unfoldable pub joined : List (List ℕ) → List ℕ
 joined [] = []
 joined (l ∷ ls) = l ++ joined ls
-
--- n lines, the first of them `line k`
-unfoldable pub linesFrom : (ℕ → List ℕ) → ℕ → ℕ → List (List ℕ)
-linesFrom line k zero = []
-linesFrom line k (suc n) = line k ∷ linesFrom line (suc k) n
 
 -- a call wrote `text` where it fits, and nothing where it does not
 abbrev pub TriedTo : List ℕ → List ℕ → List ℕ → Tried → Type 0
