@@ -1,11 +1,32 @@
--- What `decimal` means: it reads back as its number, and but for 0 its first digit is no zero. Assumes nothing.
+-- What `decimal` means: its bytes are digits, it reads back as its number, and but for 0 its first digit is no zero. Assumes nothing.
 use mathlib.Core.Path.{_≡_, refl, _∙_}
 use mathlib.Core.List.{List, [], _∷_, _++_, append-assoc}
-use Prim.Native.Nat.{ℕ, zero, suc, _+_, _-_, _*_, _/_, _%_, _≤_, _<_}
-use native.Mathlib.Nat.{le-refl}
+use Prim.Native.Nat.{ℕ, zero, suc, _+_, _-_, _*_, _/_, _%_, _≤_, _<_, suc-le-suc}
+use native.Mathlib.Nat.{le-refl, not-suc-le-zero, le-of-suc-le-suc}
 use native.Mathlib.Omega.{arith}
-use lib.ListN.{getD}
+use lib.ListN.{length, getD}
 use Rattle.text.specs.Decimal.{lastDigit, digits, decimal, read}
+
+-- ---- its bytes are `0` to `9`
+
+abbrev pub Digits : List ℕ → Type 0
+Digits l = (i : ℕ) → i < length l → (48 ≤ getD l i 0) × (getD l i 0 ≤ 57)
+
+and-last : (s : List ℕ) (n : ℕ) → Digits s → Digits (s ++ lastDigit n)
+and-last [] n d zero h = (omega arith, omega arith)
+and-last [] n d (suc i) h = absurd (omega arith)
+and-last (x ∷ s) n d zero h = d zero (omega arith)
+and-last (x ∷ s) n d (suc i) h = and-last s n (λ j k. d (suc j) (suc-le-suc k)) i (le-of-suc-le-suc h)
+
+digits-digits : (k n : ℕ) → Digits (digits k n)
+unfolding digits
+digits-digits zero n i h = absurd (not-suc-le-zero h)
+digits-digits (suc k) zero i h = absurd (not-suc-le-zero h)
+digits-digits (suc k) (suc n) i h = and-last (digits k (suc n / 10)) (suc n) (digits-digits k (suc n / 10)) i h
+
+pub decimal-digits : (n : ℕ) → Digits (decimal n)
+unfolding decimal
+decimal-digits n = and-last (digits (n / 10) (n / 10)) n (digits-digits (n / 10) (n / 10))
 
 -- ---- it reads back
 

@@ -1,7 +1,7 @@
 -- Laws of signed numbers: a word in two's complement, a sum, and a number's size and sign. Assumes nothing.
 use mathlib.Core.Bool.{Bool, true, false, cond}
 use mathlib.Core.List.{_∷_}
-use mathlib.Core.Path.{_≡_, ap, ap₂}
+use mathlib.Core.Path.{_≡_, ap, ap₂, _∙_}
 use Prim.Native.Nat.{ℕ, suc, _+_, _-_, _*_, _^_, _≤_, _<_}
 use native.Mathlib.Nat.{not-suc-le-zero, zero-add, mul-le-mul}
 use native.Mathlib.Omega.{arith}
@@ -14,9 +14,13 @@ use mir.Val.{SFits, toZ, ofZ, hbits}
 use mir.Facts.{toZ-ofZ, sfits-widen}
 use Rattle.units.specs.Level.{signed, fixed, signedFixed}
 
--- what a cast to a wider type reads back
-pub widened : (w w′ : Width) {z : ℤ} → T (leb (hbits w) (hbits w′)) → SFits w z → toZ w′ (ofZ w′ (toZ w (ofZ w z))) ≡ z
-widened w w′ h f = rw (toZ-ofZ f) (toZ-ofZ (sfits-widen h f))
+-- a number read from its bits fits a wider type, and a cast to that type reads it back
+module _ (w w′ : Width) {z : ℤ} (wider : T (leb (hbits w) (hbits w′))) (f : SFits w z) where
+  pub widens : SFits w′ (toZ w (ofZ w z))
+  widens = rw (toZ-ofZ f) (sfits-widen wider f)
+
+  pub widened : toZ w′ (ofZ w′ (toZ w (ofZ w z))) ≡ z
+  widened = toZ-ofZ widens ∙ toZ-ofZ f
 
 -- ---- two's complement
 

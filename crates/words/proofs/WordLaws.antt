@@ -44,13 +44,13 @@ unfolding wordsOf
 words-take zero bs = refl
 words-take (suc n) [] = rw take-nil
 words-take (suc n) (a ∷ []) = rw (twice-suc n)
-words-take (suc n) (a ∷ (b ∷ bs)) = rw (twice-suc n) (ap (λ l. (a + 256 * b) ∷ l) (words-take n bs))
+words-take (suc n) (a ∷ (b ∷ bs)) = rw (twice-suc n, words-take n bs)
 
 pub words-append : (xs bs : List ℕ) → length xs % 2 ≡ 0 → wordsOf (xs ++ bs) ≡ wordsOf xs ++ wordsOf bs
 unfolding wordsOf
 words-append [] bs h = refl
 words-append (a ∷ []) bs h = absurd (omega arith)
-words-append (a ∷ (b ∷ xs)) bs h = ap (λ l. (a + 256 * b) ∷ l) (words-append xs bs (omega arith))
+words-append (a ∷ (b ∷ xs)) bs h = rw (words-append xs bs (omega arith))
 
 -- ---- bytes of words
 
@@ -62,7 +62,7 @@ bytes-length (w ∷ ws) = omega (arith, bytes-length ws)
 pub bytes-append : (vs ws : List ℕ) → bytesOf (vs ++ ws) ≡ bytesOf vs ++ bytesOf ws
 unfolding bytesOf
 bytes-append [] ws = refl
-bytes-append (v ∷ vs) ws = ap (λ l. low v ∷ (high v ∷ l)) (bytes-append vs ws)
+bytes-append (v ∷ vs) ws = rw (bytes-append vs ws)
 
 pub bytes-drop : (k : ℕ) (ws : List ℕ) → bytesOf (drop k ws) ≡ drop (2 * k) (bytesOf ws)
 unfolding bytesOf
@@ -74,7 +74,7 @@ pub bytes-take : (n : ℕ) (ws : List ℕ) → bytesOf (take n ws) ≡ take (2 *
 unfolding bytesOf
 bytes-take zero ws = refl
 bytes-take (suc n) [] = rw take-nil
-bytes-take (suc n) (w ∷ ws) = rw (twice-suc n) (ap (λ l. low w ∷ (high w ∷ l)) (bytes-take n ws))
+bytes-take (suc n) (w ∷ ws) = rw (twice-suc n, bytes-take n ws)
 
 pub byte-low : (ws : List ℕ) (i : ℕ) → getD (bytesOf ws) (2 * i) 0 ≡ low (getD ws i 0)
 unfolding bytesOf

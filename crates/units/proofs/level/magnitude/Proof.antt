@@ -2,14 +2,14 @@
 use mathlib.Core.Path.{refl}
 use native.Mathlib.Omega.{arith}
 use lib.Signed.{natAbs-le}
-use mir.Facts.{toZ-ofZ, sfits-widen, fits-natAbs}
+use mir.Facts.{toZ-ofZ, fits-natAbs}
 use mir.Syntax.{w32, w64}
-use Rattle.units.proofs.SignedLaws.{widened, negated, not-negative}
+use Rattle.units.proofs.SignedLaws.{widens, widened, negated, not-negative}
 use Rattle.units.proofs.level.magnitude.Statement.{statement}
 use Rattle.units.proofs.level.magnitude.Tie as tie
 
 cast-wide : tie.Need-cast-wide
-cast-wide c = rw (toZ-ofZ (c .fits .v)) (sfits-widen tt (c .fits .v))
+cast-wide c = widens w32 w64 tt (c .fits .v)
 
 sub-result : tie.Need-sub-result
 sub-result c =

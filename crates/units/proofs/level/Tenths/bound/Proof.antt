@@ -4,11 +4,11 @@ use mathlib.Core.Path.{_≡_, ap, ap₂, _∙_}
 use native.Mathlib.Omega.{arith}
 use Prim.Native.Nat.{ℕ, _*_, _<_}
 use lib.IntN.{ℤ, pos, _+ℤ_}
-use mir.Facts.{toZ-ofZ, toZ-pos, sfits-widen}
+use mir.Facts.{toZ-ofZ, toZ-pos}
 use mir.Syntax.{w16, w32}
 use mir.Val.{SFits, toZ, ofZ}
 use Rattle.units.specs.Level.{bound}
-use Rattle.units.proofs.SignedLaws.{widened, product, sum-fits}
+use Rattle.units.proofs.SignedLaws.{widens, widened, product, sum-fits}
 use Rattle.units.proofs.level.Tenths.bound.Statement.{statement}
 use Rattle.units.proofs.level.Tenths.bound.Tie as tie
 
@@ -24,7 +24,7 @@ mul-above : tie.Need-mul-above
 mul-above c = omega (arith, product (c .args .class) (c .args .width) (c .pre) (omega arith))
 
 cast-t8 : tie.Need-cast-t8
-cast-t8 c = let f : SFits w16 (c .signed .result) = sfits-of (c .signed .ok) in rw (toZ-ofZ f) (sfits-widen tt f)
+cast-t8 c = widens w16 w32 {z = c .signed .result} tt (sfits-of (c .signed .ok))
 
 cast-t9 : tie.Need-cast-t9
 cast-t9 c = let s = c .before in record { sfits = omega (arith, product (s .args .class) (s .args .width) (s .pre) (omega arith)) }

@@ -1,16 +1,14 @@
 -- `level::Tenths::level` meets its contract. Assumes nothing.
 use borrow.Author.Needs.{needs, sfits-of}
 use mathlib.Core.Path.{ap, _∙_}
-use mir.Facts.{toZ-ofZ, sfits-widen}
 use mir.Syntax.{w16, w32}
-use mir.Val.{SFits}
 use Rattle.units.specs.Level.{level}
-use Rattle.units.proofs.SignedLaws.{widened}
+use Rattle.units.proofs.SignedLaws.{widens, widened}
 use Rattle.units.proofs.level.Tenths.level.Statement.{statement}
 use Rattle.units.proofs.level.Tenths.level.Tie as tie
 
 cast-t3 : tie.Need-cast-t3
-cast-t3 c = let f : SFits w16 (c .signed .result) = sfits-of (c .signed .ok) in rw (toZ-ofZ f) (sfits-widen tt f)
+cast-t3 c = widens w16 w32 {z = c .signed .result} tt (sfits-of (c .signed .ok))
 
 returns : tie.Need-returns
 unfolding level
