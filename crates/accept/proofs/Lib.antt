@@ -1,0 +1,2 @@
+-- The laws of the judgement. Assumes nothing.
+pub mod Turns

@@ -1,0 +1,10 @@
+-- `judge::State::first` is `firstState`. Assumes nothing.
+use borrow.Author.Needs.{needs}
+use Rattle.accept.proofs.judge.State.first.Statement.{statement}
+use Rattle.accept.proofs.judge.State.first.Tie as tie
+
+returns : tie.Need-returns
+returns c = rw (c .none .ensures)
+
+pub first-spec : {M : Type 1} → statement M
+first-spec = tie.close (tie.spec (λ c κs. search needs) returns)

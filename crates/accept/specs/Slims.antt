@@ -1,0 +1,55 @@
+-- What a file holds: its listed blocks in slim form, and where each stands. Assumes nothing.
+use mathlib.Core.Bool.{Bool, cond}
+use mathlib.Core.List.{List, [], _∷_, _++_}
+use Prim.Native.Nat.{ℕ}
+use lib.Dec.{eqb}
+use lib.ListN.{getD}
+use Rattle.words.specs.Words.{low, wordsOf}
+use Rattle.blocks.specs.Walk.{Part, partsOf, walked}
+use Rattle.rules.specs.Slim.{Slim, wordIn}
+use Rattle.accept.specs.declared.judge.Starts.{Starts}
+use Rattle.tables.specs.Table.{rowOf, slimOf}
+use Rattle.tables.specs.Order.{keyOf}
+use Rattle.accept.specs.Judge.{absent, placeOf}
+
+-- a listed block in its slim form; a block that is not listed leaves none
+unfoldable pub slimPart : Part → List Slim
+slimPart p = cond (rowOf (low (getD (p .words) 0 0)) .listed) (slimOf (p .words) (p .raw) ∷ []) []
+
+unfoldable pub slims : List Part → List Slim
+slims [] = []
+slims (p ∷ ps) = slimPart p ++ slims ps
+
+-- the slim blocks of a file
+unfoldable pub slimsIn : List ℕ → List Slim
+slimsIn file = slims (partsOf (walked (wordsOf file)))
+
+-- the slim form of a block that is absent
+abbrev pub noSlim : Slim
+noSlim = record { head = []; records = []; contents = [] }
+
+-- the slim block at a place, where there is one, and else `found`
+unfoldable pub slimFrom : ℕ → Slim → List Slim → Slim
+slimFrom place found [] = found
+slimFrom place found (x ∷ xs) = slimFrom place (cond (eqb (placeOf (keyOf (wordIn x 0))) place) x found) xs
+
+-- the slim block at a place: an accepted file has one at most
+unfoldable pub slimAt : ℕ → List Slim → Slim
+slimAt place xs = slimFrom place noSlim xs
+
+-- where the block at a place starts
+unfoldable pub startOf : ℕ → Starts → ℕ
+startOf place s =
+    cond (eqb place 0x01) (s .file)
+    (cond (eqb place 0x02) (s .unit)
+    (cond (eqb place 0x03) (s .title)
+    (cond (eqb place 0x04) (s .setup)
+    (cond (eqb place 0x05) (s .profiles)
+    (cond (eqb place 0x07) (s .results)
+    (cond (eqb place 0x0E) (s .spectrum)
+    (cond (eqb place 0x09) (s .statistics)
+    (cond (eqb place 0x010B) (s .counts1)
+    (cond (eqb place 0x020B) (s .counts2)
+    (cond (eqb place 0x040B) (s .counts3)
+    (cond (eqb place 0x0F) (s .logger)
+    absent)))))))))))

@@ -1,0 +1,2 @@
+-- The laws of the tables. Assumes nothing.
+pub mod TableLaws

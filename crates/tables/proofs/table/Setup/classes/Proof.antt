@@ -1,0 +1,20 @@
+-- `table::Setup::classes` is `classesOf`. Assumes nothing.
+use borrow.Author.Tests.{ne-eqb}
+use Rattle.tables.specs.Table.{classesOf}
+use Rattle.tables.proofs.table.Setup.classes.Statement.{statement}
+use Rattle.tables.proofs.table.Setup.classes.Tie as tie
+
+returns : tie.Need-returns
+unfolding classesOf
+returns c = rw (c .match .keys1)
+
+returns-2 : tie.Need-returns-2
+unfolding classesOf
+returns-2 c = rw (c .match .keys2)
+
+returns-3 : tie.Need-returns-3
+unfolding classesOf
+returns-3 c = simp (ne-eqb _ 1 (c .match .rest .0 .1), ne-eqb _ 2 (c .match .rest .1))
+
+pub classes-spec : {M : Type 1} → statement M
+classes-spec = tie.close (tie.spec returns returns-2 returns-3)

@@ -1,0 +1,508 @@
+// The tables of the 945 as data, and what a block says of the blocks behind it.
+use rules::Row;
+use rules::Rule;
+use rules::Rules;
+use rules::Subs;
+use rules::record_word;
+use words::word;
+ghost use mathlib.Core.Path.{_≡_};
+ghost use mathlib.Core.List.{[]};
+ghost use Rattle.words.specs.Words.{wordsOf};
+ghost use Rattle.tables.specs.Table.{bandRules, bandsOf, levelsOf, classesOf, learnt, slimOf, rowFor, profileLevels};
+
+// Fills up a list of rules, and is never asked.
+const NO_RULE: Rule = Rule {
+    off: 0,
+    lo: 0,
+    hi: 0,
+    num: 0,
+    from: 0,
+};
+
+const NO_RULES: Rules = Rules {
+    count: 0,
+    list: [NO_RULE, NO_RULE, NO_RULE, NO_RULE],
+};
+
+const NO_SUBS: Subs = Subs {
+    count: 0,
+    id: 0,
+    least: 0,
+    rules: NO_RULES,
+};
+
+// Tab. B.1.1, file header.
+const FILE_HEADER: Row = Row {
+    listed: true,
+    least: 12,
+    exact: false,
+    text: false,
+    rules: NO_RULES,
+    logger: false,
+    width: 0,
+    subs: NO_SUBS,
+};
+
+// Tab. B.1.2, unit and software specification.
+const UNIT_TYPE: Rule = Rule {
+    off: 2,
+    lo: 945,
+    hi: 945,
+    num: 5,
+    from: 0,
+};
+
+const UNIT: Row = Row {
+    listed: true,
+    least: 6,
+    exact: false,
+    text: false,
+    rules: Rules {
+        count: 1,
+        list: [UNIT_TYPE, NO_RULE, NO_RULE, NO_RULE],
+    },
+    logger: false,
+    width: 0,
+    subs: NO_SUBS,
+};
+
+// Tab. B.1.3, user's text.
+const TITLE: Row = Row {
+    listed: true,
+    least: 2,
+    exact: false,
+    text: true,
+    rules: NO_RULES,
+    logger: false,
+    width: 0,
+    subs: NO_SUBS,
+};
+
+// Tab. B.1.4, parameters and global settings. The filter and the buffering of bands are asked of functions 2 and 3.
+const FUNCTION: Rule = Rule {
+    off: 3,
+    lo: 1,
+    hi: 3,
+    num: 8,
+    from: 0,
+};
+
+const BAND_FILTER: Rule = Rule {
+    off: 21,
+    lo: 0,
+    hi: 3,
+    num: 8,
+    from: 2,
+};
+
+const BAND_BUFFERING: Rule = Rule {
+    off: 22,
+    lo: 0,
+    hi: 1,
+    num: 8,
+    from: 2,
+};
+
+const SETTINGS: Row = Row {
+    listed: true,
+    least: 23,
+    exact: false,
+    text: false,
+    rules: Rules {
+        count: 3,
+        list: [FUNCTION, BAND_FILTER, BAND_BUFFERING, NO_RULE],
+    },
+    logger: false,
+    width: 0,
+    subs: NO_SUBS,
+};
+
+// Count 3 and mask 7 in word 1 of 05 and 07; mask 7 and count 3 in word 1 of 09.
+const COUNT_AND_MASK: Rule = Rule {
+    off: 1,
+    lo: 0x0307,
+    hi: 0x0307,
+    num: 6,
+    from: 0,
+};
+
+const MASK_AND_COUNT: Rule = Rule {
+    off: 1,
+    lo: 0x0703,
+    hi: 0x0703,
+    num: 6,
+    from: 0,
+};
+
+// Tab. B.1.5, special settings for profiles.
+const PROFILE_FILTER: Rule = Rule {
+    off: 2,
+    lo: 1,
+    hi: 4,
+    num: 8,
+    from: 0,
+};
+
+const PROFILE_BUFFER: Rule = Rule {
+    off: 3,
+    lo: 0,
+    hi: 4,
+    num: 8,
+    from: 0,
+};
+
+const PROFILES: Row = Row {
+    listed: true,
+    least: 20,
+    exact: false,
+    text: false,
+    rules: Rules {
+        count: 1,
+        list: [COUNT_AND_MASK, NO_RULE, NO_RULE, NO_RULE],
+    },
+    logger: false,
+    width: 0,
+    subs: Subs {
+        count: 3,
+        id: 0x06,
+        least: 6,
+        rules: Rules {
+            count: 2,
+            list: [PROFILE_FILTER, PROFILE_BUFFER, NO_RULE, NO_RULE],
+        },
+    },
+};
+
+// Tab. B.1.6, main results.
+const RESULTS: Row = Row {
+    listed: true,
+    least: 44,
+    exact: false,
+    text: false,
+    rules: Rules {
+        count: 1,
+        list: [COUNT_AND_MASK, NO_RULE, NO_RULE, NO_RULE],
+    },
+    logger: false,
+    width: 0,
+    subs: Subs {
+        count: 3,
+        id: 0x08,
+        least: 14,
+        rules: NO_RULES,
+    },
+};
+
+// Word 1 of a spectrum.
+const ONE_SPECTRUM: Rule = Rule {
+    off: 1,
+    lo: 0x0101,
+    hi: 0x0101,
+    num: 6,
+    from: 0,
+};
+
+// Tab. B.1.7, 1/1 octave analysis.
+const OCTAVE: Row = Row {
+    listed: true,
+    least: 23,
+    exact: false,
+    text: false,
+    rules: Rules {
+        count: 4,
+        list: [
+            ONE_SPECTRUM,
+            Rule {
+                off: 2,
+                lo: 100,
+                hi: 100,
+                num: 8,
+                from: 0,
+            },
+            Rule {
+                off: 3,
+                lo: 15,
+                hi: 15,
+                num: 8,
+                from: 0,
+            },
+            Rule {
+                off: 4,
+                lo: 3,
+                hi: 3,
+                num: 8,
+                from: 0,
+            },
+        ],
+    },
+    logger: false,
+    width: 0,
+    subs: NO_SUBS,
+};
+
+// Tab. B.1.8, 1/3 octave analysis.
+const THIRD: Row = Row {
+    listed: true,
+    least: 53,
+    exact: false,
+    text: false,
+    rules: Rules {
+        count: 4,
+        list: [
+            ONE_SPECTRUM,
+            Rule {
+                off: 2,
+                lo: 80,
+                hi: 80,
+                num: 8,
+                from: 0,
+            },
+            Rule {
+                off: 3,
+                lo: 45,
+                hi: 45,
+                num: 8,
+                from: 0,
+            },
+            Rule {
+                off: 4,
+                lo: 3,
+                hi: 3,
+                num: 8,
+                from: 0,
+            },
+        ],
+    },
+    logger: false,
+    width: 0,
+    subs: NO_SUBS,
+};
+
+// Tab. B.1.12, statistics header.
+const STATISTICS: Row = Row {
+    listed: true,
+    least: 14,
+    exact: false,
+    text: false,
+    rules: Rules {
+        count: 1,
+        list: [MASK_AND_COUNT, NO_RULE, NO_RULE, NO_RULE],
+    },
+    logger: false,
+    width: 0,
+    subs: Subs {
+        count: 3,
+        id: 0x0A,
+        least: 4,
+        rules: NO_RULES,
+    },
+};
+
+// Tab. B.1.16, words 3 to 5 where a buffer record has bands: as words 2 to 4 of the spectrum.
+const OCTAVE_BANDS: Rules = Rules {
+    count: 3,
+    list: [
+        Rule {
+            off: 3,
+            lo: 100,
+            hi: 100,
+            num: 8,
+            from: 0,
+        },
+        Rule {
+            off: 4,
+            lo: 15,
+            hi: 15,
+            num: 8,
+            from: 0,
+        },
+        Rule {
+            off: 5,
+            lo: 3,
+            hi: 3,
+            num: 8,
+            from: 0,
+        },
+        NO_RULE,
+    ],
+};
+
+const THIRD_BANDS: Rules = Rules {
+    count: 3,
+    list: [
+        Rule {
+            off: 3,
+            lo: 80,
+            hi: 80,
+            num: 8,
+            from: 0,
+        },
+        Rule {
+            off: 4,
+            lo: 45,
+            hi: 45,
+            num: 8,
+            from: 0,
+        },
+        Rule {
+            off: 5,
+            lo: 3,
+            hi: 3,
+            num: 8,
+            from: 0,
+        },
+        NO_RULE,
+    ],
+};
+
+// A block that is not listed.
+const UNLISTED: Row = Row {
+    listed: false,
+    least: 0,
+    exact: false,
+    text: false,
+    rules: NO_RULES,
+    logger: false,
+    width: 0,
+    subs: NO_SUBS,
+};
+
+// What later blocks depend on: the function, the levels of bands and of profiles in a buffer record, the numbers of classes.
+pub struct Setup {
+    pub function: u16,
+    pub bands: u16,
+    pub profiles: u16,
+    pub first: u16,
+    pub second: u16,
+    pub third: u16,
+}
+
+fn band_rules(bands: u16) -> Rules
+    ensures { λ r. ⌜ r ≡ bandRules bands ⌝ }
+{
+    match bands {
+        18 => OCTAVE_BANDS,
+        48 => THIRD_BANDS,
+        _ => NO_RULES,
+    }
+}
+
+// The levels of bands in a buffer record. The 945 writes 0 for buffering on.
+fn bands_of(function: u16, buffering: u16) -> u16
+    ensures { λ r. ⌜ r ≡ bandsOf function buffering ⌝ }
+{
+    if buffering != 0 {
+        return 0;
+    }
+    match function {
+        2 => 18,
+        3 => 48,
+        _ => 0,
+    }
+}
+
+// The levels of a profile in a buffer record, by its buffer code.
+fn levels_of(code: u16) -> u16
+    ensures { λ r. ⌜ r ≡ levelsOf code ⌝ }
+{
+    if code == 0 { 0 } else { 1 }
+}
+
+// The levels of all profiles in a buffer record.
+fn profile_levels(b: &[u8]) -> u16
+    ensures { λ r. ⌜ r ≡ profileLevels (wordsOf (now (b .entry))) ⌝ }
+{
+    levels_of(record_word(b, 0, 3))
+        + (levels_of(record_word(b, 1, 3)) + levels_of(record_word(b, 2, 3)))
+}
+
+impl Setup {
+    // The classes of the histogram with the mask nn.
+    fn classes(self, nn: u16) -> u16
+        ensures { λ r. ⌜ r ≡ classesOf self nn ⌝ }
+    {
+        match nn {
+            0x01 => self.first,
+            0x02 => self.second,
+            _ => self.third,
+        }
+    }
+
+    // The row that a block with this first word is held to.
+    pub fn row_for(self, header: u16) -> Row
+        ensures { λ r. ⌜ r ≡ rowFor self header ⌝ }
+    {
+        let id = header % 256;
+        match id {
+            0x01 => FILE_HEADER,
+            0x02 => UNIT,
+            0x03 => TITLE,
+            0x04 => SETTINGS,
+            0x05 => PROFILES,
+            0x07 => RESULTS,
+            0x0E => OCTAVE,
+            0x10 => THIRD,
+            0x09 => STATISTICS,
+            // Tab. B.1.13, statistics.
+            0x0B => Row {
+                listed: true,
+                least: 2 * (self.classes(header / 256) as usize) + 2,
+                exact: true,
+                text: false,
+                rules: NO_RULES,
+                logger: false,
+                width: 0,
+                subs: NO_SUBS,
+            },
+            // Tab. B.1.16, header of the file from the buffer.
+            0x0F => Row {
+                listed: true,
+                least: 8,
+                exact: false,
+                text: false,
+                rules: band_rules(self.bands),
+                logger: true,
+                width: self.profiles as usize + self.bands as usize,
+                subs: NO_SUBS,
+            },
+            _ => UNLISTED,
+        }
+    }
+
+    // What is known after a listed block.
+    pub fn learnt(self, b: &[u8]) -> Setup
+        ensures { λ r. ⌜ r ≡ learnt self (slimOf (wordsOf (now (b .entry))) []) ⌝ }
+    {
+        let id = word(b, 0) % 256;
+        match id {
+            0x04 => {
+                let function = word(b, 3);
+                Setup {
+                    function,
+                    bands: bands_of(function, word(b, 22)),
+                    profiles: self.profiles,
+                    first: self.first,
+                    second: self.second,
+                    third: self.third,
+                }
+            }
+            0x05 => Setup {
+                function: self.function,
+                bands: self.bands,
+                profiles: profile_levels(b),
+                first: self.first,
+                second: self.second,
+                third: self.third,
+            },
+            0x09 => Setup {
+                function: self.function,
+                bands: self.bands,
+                profiles: self.profiles,
+                first: record_word(b, 0, 1),
+                second: record_word(b, 1, 1),
+                third: record_word(b, 2, 1),
+            },
+            _ => self,
+        }
+    }
+}
