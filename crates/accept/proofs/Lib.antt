@@ -1,2 +1,5 @@
--- The laws of the judgement. Assumes nothing.
+-- The laws of the judgement and of the starts. Assumes nothing.
 pub mod Turns
+pub mod Seen
+pub mod Found
+pub mod FoundWords

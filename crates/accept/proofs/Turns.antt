@@ -1,8 +1,8 @@
 -- One block against the state, and one turn of the loop over the blocks. Assumes nothing.
 use mathlib.Core.Bool.{true, false}
-use mathlib.Core.List.{List, []}
+use mathlib.Core.List.{List}
 use mathlib.Core.Path.{_≡_, refl, sym, ap, _∙_}
-use Prim.Native.Nat.{ℕ, suc, _+_, _-_, _≤_, _<_}
+use Prim.Native.Nat.{ℕ, suc, _+_, _-_, _≤_}
 use native.Mathlib.Nat.{add-zero}
 use native.Mathlib.Omega.{arith}
 use lib.ListN.{length, getD, take, drop}
@@ -11,7 +11,7 @@ use Rattle.blocks.specs.declared.Stop.{Stop}
 use Rattle.blocks.specs.declared.Stop.the-variants.{End, Refused}
 use Rattle.blocks.specs.declared.Step.{Step}
 use Rattle.blocks.specs.declared.Step.the-variants.{Block, Over}
-use Rattle.blocks.specs.Walk.{Walk, over, block, walked, stepAt, rawOf}
+use Rattle.blocks.specs.Walk.{Walk, block, walked, stepAt, rawOf}
 use Rattle.blocks.proofs.Steps.{walkFrom, walk-start, walk-over, walk-block, step-block, end-bounds}
 use Rattle.rules.specs.declared.Row.{Row}
 use Rattle.rules.specs.declared.Tested.the-variants.{Good, Bad}
@@ -21,7 +21,7 @@ use Rattle.accept.specs.declared.judge.Judged.{Judged}
 use Rattle.accept.specs.declared.judge.Judged.the-variants.{Passed, Denied}
 use Rattle.tables.specs.Table.{rowFor}
 use Rattle.tables.specs.Order.{keyOf, isDue}
-use Rattle.accept.specs.Judge.{firstState, skipped, enteredBy, testedBy, judgedBy, seenBy, seenIn, closed, judgedStep, judge, Ends, Near}
+use Rattle.accept.specs.Judge.{firstState, skipped, enteredBy, testedBy, judgedBy, seenBy, seenIn, judgedStep, judge, Near}
 
 -- ---- a block, by what its row, the order and its tests say
 

@@ -5,7 +5,7 @@ use mathlib.Core.List.{List, []}
 use Prim.Native.Nat.{ℕ, _+_, _%_, _<_}
 use lib.Dec.{eqb, ltb}
 use lib.ListN.{length, getD, take, drop}
-use Rattle.words.specs.Words.{low, wordsOf}
+use Rattle.words.specs.Words.{wordsOf}
 use Rattle.blocks.specs.declared.Step.{Step}
 use Rattle.blocks.specs.declared.Step.the-variants.{Block, Over}
 use Rattle.blocks.specs.declared.Stop.{Stop}

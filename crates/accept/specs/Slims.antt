@@ -1,11 +1,11 @@
 -- What a file holds: its listed blocks in slim form, and where each stands. Assumes nothing.
-use mathlib.Core.Bool.{Bool, cond}
+use mathlib.Core.Bool.{cond}
 use mathlib.Core.List.{List, [], _∷_, _++_}
-use Prim.Native.Nat.{ℕ}
+use Prim.Native.Nat.{ℕ, _+_}
 use lib.Dec.{eqb}
-use lib.ListN.{getD}
+use lib.ListN.{length, getD, take, drop}
 use Rattle.words.specs.Words.{low, wordsOf}
-use Rattle.blocks.specs.Walk.{Part, partsOf, walked}
+use Rattle.blocks.specs.Walk.{broken, ended, cut, frontOf, rawOf, Part, partsOf, walked}
 use Rattle.rules.specs.Slim.{Slim, wordIn}
 use Rattle.accept.specs.declared.judge.Starts.{Starts}
 use Rattle.tables.specs.Table.{rowOf, slimOf}
@@ -37,6 +37,11 @@ slimFrom place found (x ∷ xs) = slimFrom place (cond (eqb (placeOf (keyOf (wor
 unfoldable pub slimAt : ℕ → List Slim → Slim
 slimAt place xs = slimFrom place noSlim xs
 
+-- the places: those of the record, and those of the three 0B, which have masks 01, 02 and 04
+unfoldable pub places : List ℕ
+places =
+    0x01 ∷ (0x02 ∷ (0x03 ∷ (0x04 ∷ (0x05 ∷ (0x07 ∷ (0x0E ∷ (0x09 ∷ (0x010B ∷ (0x020B ∷ (0x040B ∷ (0x0F ∷ [])))))))))))
+
 -- where the block at a place starts
 unfoldable pub startOf : ℕ → Starts → ℕ
 startOf place s =
@@ -53,3 +58,13 @@ startOf place s =
     (cond (eqb place 0x040B) (s .counts3)
     (cond (eqb place 0x0F) (s .logger)
     absent)))))))))))
+
+-- ---- what stands in the file
+
+-- the block that starts at word `at`; no words where none starts there
+unfoldable pub blockAt : List ℕ → ℕ → List ℕ
+blockAt ws at = elim (frontOf (drop at ws)) [ broken num ↦ [] | ended ↦ [] | cut k ↦ take k (drop at ws) ]
+
+-- the raw words behind it
+unfoldable pub rawAt : List ℕ → ℕ → List ℕ
+rawAt ws at = take (rawOf (blockAt ws at)) (drop (at + length (blockAt ws at)) ws)

@@ -14,7 +14,7 @@ ghost use mathlib.Core.Path.{_≡_};
 ghost use Prim.Native.Nat.{_<_, _≤_};
 ghost use lib.ListN.{length};
 ghost use Rattle.words.specs.Words.{wordsOf};
-ghost use Rattle.blocks.specs.Walk.{walked, stepAt};
+ghost use Rattle.blocks.specs.Walk.{walked};
 ghost use Rattle.accept.specs.Judge.{noStarts, placeOf, noted, firstState, skipped, enteredBy, seenIn, closed, judgedStep, judge, surveyed, Ends, Near};
 
 // The start word of each listed block; 65,535 where it is absent.

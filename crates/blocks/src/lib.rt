@@ -8,7 +8,7 @@ ghost use mathlib.Core.Path.{_≡_};
 ghost use Prim.Native.Nat.{_≤_};
 ghost use lib.ListN.{length};
 ghost use Rattle.words.specs.Words.{wordsOf};
-ghost use Rattle.blocks.specs.Walk.{frontOf, fitted, longForm, rawOf, stepped, stepAt};
+ghost use Rattle.blocks.specs.Walk.{fitted, longForm, rawOf, stepped, stepAt};
 
 // A place between two blocks: the word `at`, and where the block before it starts.
 pub struct Cursor {

@@ -1,5 +1,5 @@
 -- `check::check` answers the verdict. Assumes nothing.
-use mathlib.Core.Path.{_≡_, sym, ap, _∙_}
+use mathlib.Core.Path.{sym, ap, _∙_}
 use Rattle.accept.specs.Check.{answered, verdict, Checked}
 use Rattle.accept.specs.declared.check.Answer.the-variants.{Accepted}
 use borrow.Author.Needs.{needs}

@@ -1,6 +1,6 @@
 -- `judge::judge_blocks` is the judgement of the whole walk. Assumes nothing.
 use native.Mathlib.Omega.{arith}
-use mathlib.Core.Path.{_≡_, refl, sym, ap, subst, subst⁻¹, _∙_}
+use mathlib.Core.Path.{sym, ap, subst, subst⁻¹, _∙_}
 use Prim.Native.Nat.{suc, _-_, _≤_}
 use lib.ListN.{length}
 use Rattle.words.specs.Words.{wordsOf}

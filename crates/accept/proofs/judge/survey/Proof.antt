@@ -1,6 +1,8 @@
 -- `judge::survey` is `surveyed`. Assumes nothing.
 use borrow.Author.Tests.{eq-eqb, ne-eqb, lt-ltb, le-ltb}
+use native.Mathlib.Omega.{arith}
 use mathlib.Core.Path.{_∙_}
+use lib.ListN.{length}
 use Rattle.accept.specs.Judge.{misfit, surveyed}
 use borrow.Author.Needs.{needs}
 use Rattle.accept.proofs.judge.survey.Statement.{statement}
@@ -12,7 +14,7 @@ returns c = simp (eq-eqb _ 1 (c .if1 .taken))
 
 returns-2 : tie.Need-returns-2
 unfolding surveyed misfit
-returns-2 c = simp (ne-eqb _ 1 (c .before .if1 .left), lt-ltb 65536 _ (c .if2 .taken))
+returns-2 c = simp (ne-eqb _ 1 (c .before .if1 .left), lt-ltb 65536 (length (c .before .before .before .args .file .now)) (omega arith))
 
 returns-3 : tie.Need-returns-3
 unfolding surveyed misfit

@@ -1,12 +1,13 @@
 -- `table::bands_of` is `bandsOf`. Assumes nothing.
 use borrow.Author.Tests.{eq-eqb, ne-eqb}
+use native.Mathlib.Omega.{arith}
 use Rattle.tables.specs.Table.{bandsOf}
 use Rattle.tables.proofs.table.bands_of.Statement.{statement}
 use Rattle.tables.proofs.table.bands_of.Tie as tie
 
 returns : tie.Need-returns
 unfolding bandsOf
-returns c = simp (ne-eqb _ 0 (c .if1 .taken))
+returns c = simp (ne-eqb (c .before .args .buffering) 0 (λ z. omega arith))
 
 returns-2 : tie.Need-returns-2
 unfolding bandsOf

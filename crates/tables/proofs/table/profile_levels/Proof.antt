@@ -1,6 +1,6 @@
 -- `table::profile_levels` is `profileLevels`. Assumes nothing.
-use mathlib.Core.Path.{_≡_, ap, ap₂, _∙_}
-use Prim.Native.Nat.{ℕ, _+_}
+use mathlib.Core.Path.{ap, ap₂, _∙_}
+use Prim.Native.Nat.{_+_}
 use native.Mathlib.Omega.{arith}
 use Rattle.tables.specs.Table.{levelsOf, profileLevels}
 use Rattle.tables.proofs.TableLaws.{levels-small}

@@ -1,8 +1,8 @@
 -- `judge::State::closed` is `closed`: each way out is the case that its tests say. Assumes nothing.
 use borrow.Author.Tests.{eq-eqb, ne-eqb, not-true, not-false}
-use mathlib.Core.Path.{_≡_, sym, ap, subst, _∙_}
-use Rattle.accept.specs.Judge.{closed, Ends}
 use native.Mathlib.Omega.{arith}
+use mathlib.Core.Path.{sym, subst, _∙_}
+use Rattle.accept.specs.Judge.{closed, Ends}
 use borrow.Author.Needs.{needs}
 use Rattle.accept.proofs.judge.State.closed.Statement.{statement}
 use Rattle.accept.proofs.judge.State.closed.Tie as tie
@@ -23,7 +23,7 @@ returns-2 : tie.Need-returns-2
 unfolding closed
 returns-2 c =
     let n = c .before .before .before .before in
-    rw (n .stop .given .1, sym (c .before .before .has .ensures) ∙ not-false _ (c .before .if1 .left), ne-eqb _ 0 (c .if2 .taken))
+    rw (n .stop .given .1, sym (c .before .before .has .ensures) ∙ not-false _ (c .before .if1 .left), ne-eqb (n .stop .given .0 .1 .0) 0 (λ z. omega arith))
 
 returns-3 : tie.Need-returns-3
 unfolding closed

@@ -1,6 +1,6 @@
 -- `judge::State::seen` is `seenIn`: each way out is the case that its tests say. Assumes nothing.
 use borrow.Author.Tests.{not-true, not-false}
-use mathlib.Core.Path.{_≡_, sym, ap, subst⁻¹, _∙_}
+use mathlib.Core.Path.{sym, ap, subst⁻¹, _∙_}
 use Rattle.words.specs.Words.{wordsOf}
 use Rattle.rules.specs.Block.{Small}
 use Rattle.tables.specs.Table.{rowFor}

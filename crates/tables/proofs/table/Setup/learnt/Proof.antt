@@ -1,6 +1,6 @@
 -- `table::Setup::learnt` is `learnt` of the slim form. Assumes nothing.
 use mathlib.Core.List.{[]}
-use mathlib.Core.Path.{_≡_, sym, ap, _∙_}
+use mathlib.Core.Path.{sym, ap, _∙_}
 use Rattle.words.specs.Words.{low, wordsOf}
 use Rattle.tables.proofs.TableLaws.{learnt-04, learnt-05, learnt-09, learnt-none}
 use borrow.Author.Needs.{needs}

@@ -1,0 +1,232 @@
+-- The law of starts: in an accepted file, at the start that is noted for a place stands the block whose slim form is the
+-- file's slim block at that place, with its raw words. One predicate and one law for all places. Assumes nothing.
+use mathlib.Core.Bool.{Bool, true, false, cond, _||_, false≢true}
+use mathlib.Core.List.{List, [], _∷_}
+use mathlib.Core.Path.{_≡_, refl, sym, ap, subst, subst⁻¹, _∙_}
+use Prim.Native.Nat.{ℕ, zero, suc, _+_, _≤_}
+use native.Mathlib.Omega.{arith}
+use lib.Dec.{eqb, ltb}
+use lib.ListN.{length, getD, take, drop, length-drop}
+use lib.Seq.{length-take-le}
+use borrow.Author.Tests.{eqb-true, ltb-false}
+use Rattle.words.specs.Words.{low, wordsOf}
+use Rattle.blocks.specs.declared.Cursor.{Cursor}
+use Rattle.blocks.specs.declared.Stop.{Stop}
+use Rattle.blocks.specs.declared.Stop.the-variants.{Refused}
+use Rattle.blocks.specs.declared.Step.{Step}
+use Rattle.blocks.specs.declared.Step.the-variants.{Block, Over}
+use Rattle.blocks.specs.Walk.{cut, frontOf, rawOf, stepAt, Walk, over, block, walk, Part, partsOf}
+use Rattle.blocks.proofs.Steps.{walkFrom, walk-start, walk-over, walk-block, step-block}
+use Rattle.rules.specs.declared.Tested.the-variants.{Good}
+use Rattle.rules.specs.Block.{kept}
+use Rattle.rules.specs.Slim.{Slim, wordIn}
+use Rattle.rules.proofs.Choice.{cond-second}
+use Rattle.rules.proofs.Reading.{exact-word, slim-id}
+use Rattle.tables.specs.declared.table.Setup.{Setup}
+use Rattle.tables.specs.Table.{rowOf, rowFor, slimOf}
+use Rattle.tables.specs.Order.{keyOf}
+use Rattle.accept.specs.declared.judge.Starts.{Starts}
+use Rattle.accept.specs.declared.judge.State.{State}
+use Rattle.accept.specs.declared.judge.Judged.{Judged}
+use Rattle.accept.specs.declared.judge.Judged.the-variants.{Passed, Denied}
+use Rattle.accept.specs.Judge.{absent, noStarts, placeOf, noted, firstState, skipped, entered, enteredBy, seenIn, closed, judge, misfit, surveyed}
+use Rattle.accept.specs.Slims.{slimPart, slims, slimsIn, noSlim, slimFrom, slimAt, places, startOf, blockAt, rawAt}
+use Rattle.accept.proofs.Turns.{judge-pass, judge-deny}
+use Rattle.accept.proofs.Seen.{no-denied, Through, unlisted, listed, seen-through, closed-passed}
+
+-- a block with its raw words, where it starts
+pub record There (ws : List ℕ) (place start : ℕ) (x : Slim) : Type 0 where
+  pub front : frontOf (drop start ws) ≡ cut (length (blockAt ws start))
+  pub fits : start + (length (blockAt ws start) + rawOf (blockAt ws start)) ≤ length ws
+  pub place-is : placeOf (keyOf (getD (blockAt ws start) 0 0)) ≡ place
+  pub row-is : rowOf (low (getD (blockAt ws start) 0 0)) .listed ≡ true
+  pub setup : Setup
+  pub good : kept (rowFor setup (getD (blockAt ws start) 0 0)) (blockAt ws start) ≡ Good
+  pub slim : x ≡ slimOf (blockAt ws start) (rawAt ws start)
+
+-- a place of the file: a block stands there, or the place is absent
+pub data Found (ws : List ℕ) (place start : ℕ) (x : Slim) : Type 0 where
+  there : There ws place start x → Found ws place start x
+  nowhere : start ≡ absent → x ≡ noSlim → Found ws place start x
+
+-- the block of a step is the one that starts there
+block-at : (ws : List ℕ) (at k : ℕ) → frontOf (drop at ws) ≡ cut k → blockAt ws at ≡ take k (drop at ws)
+unfolding blockAt
+block-at ws at k e = rw (e, blockAt)
+
+key-same : (v w : ℕ) → low v ≡ low w → (low w ≡ 0x0B → v ≡ w) → keyOf v ≡ keyOf w
+unfolding keyOf
+key-same v w e f = go (eqb (low w) 0x0B) refl
+  where
+    go : (t : Bool) → eqb (low w) 0x0B ≡ t → cond (eqb (low v) 0x0B) v (low v) ≡ cond (eqb (low w) 0x0B) w (low w)
+    go true p = ap (λ (n : ℕ). cond (eqb (low n) 0x0B) n (low n)) (f (eqb-true _ 0x0B p))
+    go false p = rw (e, p)
+
+-- a slim form has the key of its block
+slim-key : (b raw : List ℕ) → keyOf (wordIn (slimOf b raw) 0) ≡ keyOf (getD b 0 0)
+unfolding slimOf rowOf
+slim-key b raw =
+    key-same (wordIn (slimOf b raw) 0) (getD b 0 0) (slim-id (rowOf (low (getD b 0 0))) b raw)
+    (λ e. exact-word (rowOf (low (getD b 0 0))) b raw (ap (λ (i : ℕ). rowOf i .exact) e) 0)
+
+-- the block of a step, with its raw words, stands where the step found it
+step-there : (ws : List ℕ) (place start len : ℕ) (known : Setup) → frontOf (drop start ws) ≡ cut len
+    → start + (len + rawOf (take len (drop start ws))) ≤ length ws
+    → placeOf (keyOf (getD (take len (drop start ws)) 0 0)) ≡ place → rowOf (low (getD (take len (drop start ws)) 0 0)) .listed ≡ true
+    → kept (rowFor known (getD (take len (drop start ws)) 0 0)) (take len (drop start ws)) ≡ Good
+    → There ws place start (slimOf (take len (drop start ws)) (take (rawOf (take len (drop start ws))) (drop (start + len) ws)))
+unfolding rawAt
+step-there ws place start len known f fits p l g =
+    let b = take len (drop start ws) in
+    let same : b ≡ blockAt ws start = sym (block-at ws start len f) in
+    let n : length b ≡ len = length-take-le len (drop start ws) (omega (arith, length-drop start ws)) in
+    record {
+      front = f ∙ ap cut (sym n ∙ ap length same);
+      fits = subst (λ (v : List ℕ). start + (length v + rawOf v) ≤ length ws) same (omega (arith, n));
+      place-is = subst (λ (v : List ℕ). placeOf (keyOf (getD v 0 0)) ≡ place) same p;
+      row-is = subst (λ (v : List ℕ). rowOf (low (getD v 0 0)) .listed ≡ true) same l;
+      setup = known;
+      good = subst (λ (v : List ℕ). kept (rowFor known (getD v 0 0)) v ≡ Good) same g;
+      slim = subst (λ (v : List ℕ). slimOf b (take (rawOf b) (drop (start + len) ws)) ≡ slimOf v (take (rawOf v) (drop (start + length v) ws))) same (rw n);
+    }
+
+refused : (s s′ : State) (num p : ℕ) → judge s (over (Refused num p)) ≡ Passed s′ → ⊥
+unfolding judge closed
+refused s s′ num p e = no-denied e
+
+module _ (ws : List ℕ) (place : ℕ) where
+  no-fuel : (s s′ : State) (c : Cursor) → judge s (walkFrom zero ws c) ≡ Passed s′ → ⊥
+  unfolding walkFrom walk
+  no-fuel s s′ c e = go (ltb (length ws) (c .at)) e
+    where
+      go : (t : Bool) → judge s (cond t (over (Refused 2 (c .last))) (over (Refused 2 (c .at)))) ≡ Passed s′ → ⊥
+      go true f = refused s s′ 2 (c .last) f
+      go false f = refused s s′ 2 (c .at) f
+
+  -- a cursor from which an accepted file goes on is no further than its end
+  within : (m : ℕ) (s s′ : State) (c : Cursor) → judge s (walkFrom m ws c) ≡ Passed s′ → c .at ≤ length ws
+  unfolding walkFrom
+  within m s s′ c e = go (ltb (length ws) (c .at)) refl e
+    where
+      go : (t : Bool) → ltb (length ws) (c .at) ≡ t → judge s (cond t (over (Refused 2 (c .last))) (walk m (c .at) (drop (c .at) ws))) ≡ Passed s′ → c .at ≤ length ws
+      go true p f = absurd (refused s s′ 2 (c .last) f)
+      go false p f = ltb-false (length ws) (c .at) p
+
+  -- one block more
+  slims-pass : (p : Part) (ps : List Part) (x : Slim) → rowOf (low (getD (p .words) 0 0)) .listed ≡ false → slimFrom place x (slims (p ∷ ps)) ≡ slimFrom place x (slims ps)
+  unfolding slims slimPart
+  slims-pass p ps x l = rw l
+
+  slims-next : (p : Part) (ps : List Part) (x : Slim) → rowOf (low (getD (p .words) 0 0)) .listed ≡ true
+      → slimFrom place x (slims (p ∷ ps)) ≡ slimFrom place (cond (eqb (placeOf (keyOf (getD (p .words) 0 0))) place) (slimOf (p .words) (p .raw)) x) (slims ps)
+  unfolding slims slimPart slimFrom
+  slims-next p ps x l = rw (l, slim-key (p .words) (p .raw))
+
+  module _ (notes : (st : Starts) (q at : ℕ) → startOf place (noted st q at) ≡ cond (eqb q place) at (startOf place st)) where
+    -- a block that goes through, and where its raw words end
+    found-next : (s s′ : State) (start len : ℕ) (x : Slim) → frontOf (drop start ws) ≡ cut len
+        → start + (len + rawOf (take len (drop start ws))) ≤ length ws
+        → Through s start (take len (drop start ws)) s′ → Found ws place (startOf place (s .starts)) x → (ps : List Part)
+        → (y : Slim) × (Found ws place (startOf place (s′ .starts)) y
+        × (slimFrom place x (slims (record { words = take len (drop start ws); raw = take (rawOf (take len (drop start ws))) (drop (start + len) ws) } ∷ ps)) ≡ slimFrom place y (slims ps)))
+    unfolding skipped enteredBy entered
+    found-next s s′ start len x f all (unlisted l e) h ps =
+        (x, (subst (λ (st : State). Found ws place (startOf place (st .starts)) x) e h, slims-pass _ ps x l))
+    found-next s s′ start len x f all (listed l d g e) h ps =
+        let b = take len (drop start ws) in
+        let raw = take (rawOf b) (drop (start + len) ws) in (
+          cond (eqb (placeOf (keyOf (getD b 0 0))) place) (slimOf b raw) x,
+          (
+            subst (λ (st : State). Found ws place (startOf place (st .starts)) (cond (eqb (placeOf (keyOf (getD b 0 0))) place) (slimOf b raw) x)) e
+                (rw (notes (s .starts) (placeOf (keyOf (getD b 0 0))) start) (go (eqb (placeOf (keyOf (getD b 0 0))) place) refl)),
+            slims-next _ ps x l,
+          ),
+        )
+      where
+        go : (t : Bool) → eqb (placeOf (keyOf (getD (take len (drop start ws)) 0 0))) place ≡ t
+            → Found ws place (cond t start (startOf place (s .starts))) (cond t (slimOf (take len (drop start ws)) (take (rawOf (take len (drop start ws))) (drop (start + len) ws))) x)
+        go false p = h
+        go true p = there (step-there ws place start len (s .setup) f all (eqb-true _ place p) l g)
+
+    -- the blocks from a cursor on, up to the end of an accepted file
+    abbrev Later : ℕ → Type 0
+    Later m = (c : Cursor) (s s′ : State) (x : Slim) → Found ws place (startOf place (s .starts)) x → judge s (walkFrom m ws c) ≡ Passed s′
+        → Found ws place (startOf place (s′ .starts)) (slimFrom place x (slims (partsOf (walkFrom m ws c))))
+
+    found-over : (m : ℕ) (c : Cursor) (s s′ : State) (x : Slim) (stop : Stop) → stepAt ws c ≡ Over stop → Found ws place (startOf place (s .starts)) x
+        → judge s (walkFrom (suc m) ws c) ≡ Passed s′ → Found ws place (startOf place (s′ .starts)) (slimFrom place x (slims (partsOf (walkFrom (suc m) ws c))))
+    unfolding judge slims slimFrom partsOf
+    found-over m c s s′ x stop q h e =
+        let o = walk-over m ws c stop q in
+        let same = closed-passed s s′ stop (sym (ap (judge s) o) ∙ e) in
+        subst⁻¹ (λ (w : Walk). Found ws place (startOf place (s′ .starts)) (slimFrom place x (slims (partsOf w)))) o
+        (subst (λ (st : State). Found ws place (startOf place (st .starts)) x) same h)
+
+    found-block : (m : ℕ) → Later m → (c : Cursor) (s s′ : State) (x : Slim) (id nn start len : ℕ) (next : Cursor) → stepAt ws c ≡ Block id nn start len next
+        → Found ws place (startOf place (s .starts)) x → judge s (walkFrom (suc m) ws c) ≡ Passed s′
+        → Found ws place (startOf place (s′ .starts)) (slimFrom place x (slims (partsOf (walkFrom (suc m) ws c))))
+    unfolding partsOf
+    found-block m later c s s′ x id nn start len next q h e = subst⁻¹ Says walked-on (by-seen (seenIn s start (take len (drop start ws))) refl)
+      where
+        Says : Walk → Type 0
+        Says w = Found ws place (startOf place (s′ .starts)) (slimFrom place x (slims (partsOf w)))
+
+        walked-on : walkFrom (suc m) ws c ≡ block start (take len (drop start ws)) (take (rawOf (take len (drop start ws))) (drop (start + len) ws)) (walkFrom m ws next)
+        walked-on = walk-block m ws c id nn start len next q
+
+        by-seen : (j : Judged) → seenIn s start (take len (drop start ws)) ≡ j
+            → Says (block start (take len (drop start ws)) (take (rawOf (take len (drop start ws))) (drop (start + len) ws)) (walkFrom m ws next))
+        by-seen (Denied num p) r = absurd (no-denied (sym (judge-deny s start (take len (drop start ws)) _ _ num p r) ∙ sym (ap (judge s) walked-on) ∙ e))
+        by-seen (Passed s₁) r =
+            let on = sym (judge-pass s start (take len (drop start ws)) _ _ s₁ r) ∙ sym (ap (judge s) walked-on) ∙ e in
+            let step = step-block ws c id nn start len next q in
+            let fits : start + (len + rawOf (take len (drop start ws))) ≤ length ws = omega (arith, step .on, within m s₁ s′ next on) in
+            let more = found-next s s₁ start len x (step .front) fits (seen-through s start (take len (drop start ws)) s₁ r) h (partsOf (walkFrom m ws next)) in
+            rw (more .1 .1) (later next s₁ s′ (more .0) (more .1 .0) on)
+
+    found-judged : (m : ℕ) → Later m
+    found-judged zero c s s′ x h e = absurd (no-fuel s s′ c e)
+    found-judged (suc m) c s s′ x h e = go (stepAt ws c) refl (found-judged m)
+      where
+        go : (y : Step) → stepAt ws c ≡ y → Later m → Found ws place (startOf place (s′ .starts)) (slimFrom place x (slims (partsOf (walkFrom (suc m) ws c))))
+        go (Over stop) q later = found-over m c s s′ x stop q h e
+        go (Block id nn start len next) q later = found-block m later c s s′ x id nn start len next q h e
+
+-- ---- the law, for every place
+
+-- what is asked of a place: its start is noted at it and at no other, and is absent at first
+record Noted (place : ℕ) : Type 0 where
+  notes : (st : Starts) (q at : ℕ) → startOf place (noted st q at) ≡ cond (eqb q place) at (startOf place st)
+  none : startOf place noStarts ≡ absent
+
+abbrev Each : (ℕ → Type 0) → List ℕ → Type 0
+Each P [] = Unit {0}
+Each P (p ∷ ps) = P p × Each P ps
+
+each-noted : Each Noted places
+unfolding places startOf noted
+each-noted = (record { notes = λ st q at. refl; none = refl }, (record { notes = λ st q at. refl; none = refl }, (record { notes = λ st q at. refl; none = refl }, (record { notes = λ st q at. refl; none = refl }, (record { notes = λ st q at. refl; none = refl }, (record { notes = λ st q at. refl; none = refl }, (record { notes = λ st q at. refl; none = refl }, (record { notes = λ st q at. refl; none = refl }, (record { notes = λ st q at. refl; none = refl }, (record { notes = λ st q at. refl; none = refl }, (record { notes = λ st q at. refl; none = refl }, (record { notes = λ st q at. refl; none = refl }, tt))))))))))))
+
+unfoldable pub isIn : ℕ → List ℕ → Bool
+isIn n [] = false
+isIn n (p ∷ ps) = eqb n p || isIn n ps
+
+each-at : (P : ℕ → Type 0) (ps : List ℕ) → Each P ps → (n : ℕ) → isIn n ps ≡ true → P n
+unfolding isIn
+each-at P [] a n e = absurd (false≢true e)
+each-at P (p ∷ ps) a n e = go (eqb n p) refl e (each-at P ps (a .1) n)
+  where
+    go : (t : Bool) → eqb n p ≡ t → (t || isIn n ps) ≡ true → (isIn n ps ≡ true → P n) → P n
+    go true q f later = subst⁻¹ P (eqb-true n p q) (a .0)
+    go false q f later = later f
+
+pub found : (file : List ℕ) (s : State) → surveyed file ≡ Passed s → (place : ℕ) → isIn place places ≡ true
+    → Found (wordsOf file) place (startOf place (s .starts)) (slimAt place (slimsIn file))
+unfolding surveyed slimAt slimsIn
+found file s e place h =
+    let ws = wordsOf file in
+    let j = cond-second (misfit file) e no-denied in
+    let a = each-at Noted places each-noted place h in
+    let start : judge firstState (walkFrom (suc (length ws)) ws (record { at = 0; last = 0 })) ≡ Passed s = ap (judge firstState) (walk-start ws) ∙ j .1 in
+    subst (λ (w : Walk). Found ws place (startOf place (s .starts)) (slimFrom place noSlim (slims (partsOf w)))) (walk-start ws)
+    (found-judged ws place (a .notes) (suc (length ws)) (record { at = 0; last = 0 }) firstState s noSlim (nowhere (a .none) refl) start)

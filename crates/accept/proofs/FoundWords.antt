@@ -1,0 +1,109 @@
+-- Words of a block that was found, in the file and in its slim form: the same words. Assumes nothing.
+use mathlib.Core.Bool.{Bool, true, false, cond}
+use mathlib.Core.List.{List, []}
+use mathlib.Core.Path.{_≡_, refl, sym, ap, _∙_}
+use Prim.Native.Nat.{ℕ, zero, suc, _%_, _≤_, _<_}
+use native.Mathlib.Omega.{arith}
+use lib.Dec.{eqb, ltb}
+use lib.ListN.{length, getD, drop-of-length-le}
+use borrow.Author.Tests.{eqb-true, ltb-false}
+use Rattle.words.specs.Words.{low, wordsOf}
+use Rattle.words.proofs.WordLaws.{words-length}
+use Rattle.blocks.specs.Walk.{fronted, frontOf, rawOf}
+use Rattle.rules.specs.Block.{recordAt, recordWord}
+use Rattle.rules.specs.Slim.{Slim, slimBy, headBy, wordIn, subWordIn}
+use Rattle.rules.proofs.Choice.{cond-second, or-neither}
+use Rattle.rules.proofs.Reading.{plain-word, record-word}
+use Rattle.tables.specs.Table.{rowOf, slimOf}
+use Rattle.tables.specs.Order.{keyOf}
+use Rattle.accept.specs.declared.judge.State.{State}
+use Rattle.accept.specs.declared.judge.Judged.the-variants.{Passed}
+use Rattle.accept.specs.Judge.{placeOf, misfit, surveyed}
+use Rattle.accept.specs.Slims.{blockAt, rawAt}
+use Rattle.accept.proofs.Found.{There, Found, there, nowhere}
+use Rattle.accept.proofs.Seen.{no-denied}
+
+-- no block starts behind the last word
+none-at : (ws : List ℕ) (at : ℕ) → length ws ≤ at → blockAt ws at ≡ []
+unfolding blockAt frontOf fronted
+none-at ws at h = rw (drop-of-length-le ws {i = at} h, blockAt)
+
+none-behind : (ws : List ℕ) (at : ℕ) → length ws ≤ at → rawAt ws at ≡ []
+unfolding rawAt rawOf
+none-behind ws at h = rw (none-at ws at h)
+
+-- a place below 256 that is no histogram's and not the spectrum's is the block's id
+pub place-id : (w id : ℕ) → id < 256 → (id ≡ 0x0B → ⊥) → (id ≡ 0x0E → ⊥) → placeOf (keyOf w) ≡ id → low w ≡ id
+unfolding placeOf keyOf
+place-id w id small b e h = go (eqb (low w) 0x0B) refl h
+  where
+    by-place : (k : ℕ) (u : Bool) → eqb k 0x10 ≡ u → cond u 0x0E k ≡ id → k ≡ id
+    by-place k true q f = absurd (e (sym f))
+    by-place k false q f = f
+
+    go : (t : Bool) → eqb (low w) 0x0B ≡ t → cond (eqb (cond t w (low w)) 0x10) 0x0E (cond t w (low w)) ≡ id → low w ≡ id
+    go true p f =
+        let i = by-place w (eqb w 0x10) refl f in
+        let l : low w ≡ 0x0B = eqb-true _ 0x0B p in
+        absurd (b (omega arith))
+    go false p f = by-place (low w) (eqb (low w) 0x10) refl f
+
+-- the place of a histogram is a histogram's
+histogram-id : (w place : ℕ) → low place ≡ 0x0B → placeOf (keyOf w) ≡ place → low w ≡ 0x0B
+unfolding placeOf keyOf
+histogram-id w place l h = go (eqb (low w) 0x0B) refl h
+  where
+    by-place : (u : Bool) → cond u 0x0E (low w) ≡ place → low w ≡ 0x0B
+    by-place true f = let z : low 0x0E ≡ 0x0B = ap low f ∙ l in absurd (omega arith)
+    by-place false f = omega arith
+
+    go : (t : Bool) → eqb (low w) 0x0B ≡ t → cond (eqb (cond t w (low w)) 0x10) 0x0E (cond t w (low w)) ≡ place → low w ≡ 0x0B
+    go true p f = eqb-true _ 0x0B p
+    go false p f = by-place (eqb (low w) 0x10) f
+
+no-record : (p : ℕ) → recordAt p [] ≡ []
+unfolding recordAt
+no-record zero = refl
+no-record (suc p) = no-record p
+
+-- the files that may be accepted have 32,768 words at most
+module _ {ws : List ℕ} (few : length ws ≤ 32768) {start : ℕ} {x : Slim} where
+  module _ (id : ℕ) (small : id < 256) (b : id ≡ 0x0B → ⊥) (e : id ≡ 0x0E → ⊥) where
+    row-there : There ws id start x → x ≡ slimBy (rowOf id) (blockAt ws start) (rawAt ws start)
+    unfolding slimOf
+    row-there t = t .slim ∙ ap (λ (i : ℕ). slimBy (rowOf i) (blockAt ws start) (rawAt ws start)) (place-id _ id small b e (t .place-is))
+
+    -- word k of a block with no sub-blocks
+    pub found-word : rowOf id .exact ≡ false → rowOf id .text ≡ false → rowOf id .subs .count ≡ 0
+        → (k : ℕ) → 0 < k → k < rowOf id .least → Found ws id start x → wordIn x k ≡ getD (blockAt ws start) k 0
+    unfolding wordIn
+    found-word ex tx su k h l (there t) = ap (λ (y : Slim). wordIn y k) (row-there t) ∙ plain-word (rowOf id) (blockAt ws start) (rawAt ws start) ex tx su k h l
+    found-word ex tx su k h l (nowhere a n) = rw (n, none-at ws start (omega arith))
+
+    -- word o of sub-block p, found in the file by the lengths of the sub-blocks before it
+    pub found-record : (p o : ℕ) → p < rowOf id .subs .count → 0 < o → o < rowOf id .subs .least → Found ws id start x
+        → subWordIn x p o ≡ recordWord (blockAt ws start) p o
+    unfolding subWordIn recordWord
+    found-record p o h k l (there t) = ap (λ (y : Slim). subWordIn y p o) (row-there t) ∙ record-word (rowOf id) (blockAt ws start) (rawAt ws start) p o h k l
+    found-record p o h k l (nowhere a n) = rw (n, none-at ws start (omega arith), no-record p)
+
+  -- the raw words
+  pub found-raw : (place : ℕ) → Found ws place start x → x .contents ≡ rawAt ws start
+  unfolding slimOf slimBy
+  found-raw place (there t) = ap (λ (y : Slim). y .contents) (t .slim)
+  found-raw place (nowhere a n) = rw (n, none-behind ws start (omega arith))
+
+  -- a histogram, which is kept whole
+  pub found-whole : (place : ℕ) → low place ≡ 0x0B → Found ws place start x → x .head ≡ blockAt ws start
+  unfolding slimOf slimBy headBy rowOf
+  found-whole place h (there t) =
+      ap (λ (y : Slim). y .head) (t .slim)
+      ∙ ap (λ (i : ℕ). headBy (rowOf i) (blockAt ws start)) (histogram-id (getD (blockAt ws start) 0 0) place h (t .place-is))
+  found-whole place h (nowhere a n) = rw (n, none-at ws start (omega arith))
+
+-- an accepted file has 32,768 words at most
+pub accepted-few : (file : List ℕ) (s : State) → surveyed file ≡ Passed s → length (wordsOf file) ≤ 32768
+unfolding surveyed misfit
+accepted-few file s e =
+    let fits = or-neither (eqb (length file % 2) 1) (ltb 65536 (length file)) (cond-second (misfit file) e no-denied .0) in
+    omega (arith, words-length file, ltb-false 65536 (length file) (fits .1))

@@ -1,0 +1,3 @@
+-- What the statements of the crate cite. Assumes nothing.
+pub mod Grammar
+pub mod Cases
