@@ -3,3 +3,4 @@ pub mod Turns
 pub mod Seen
 pub mod Found
 pub mod FoundWords
+pub mod Answers

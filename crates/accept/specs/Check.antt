@@ -41,6 +41,6 @@ values (Accepted r) =
     0 ∷ (r .function ∷ (r .file ∷ (r .unit ∷ (r .title ∷ (r .setup ∷ (r .profiles ∷ (r .results ∷ (r .spectrum ∷ (r .statistics ∷ (r .logger ∷ []))))))))))
 values (Refused num at) = num ∷ (at ∷ [])
 
--- the promise of Check: its answer to a file has the numbers and values of the verdict
+-- the promise of Check: its answer has the number and the values of the verdict
 unfoldable pub Checked : List ℕ → Answer → Type 0
-Checked file answer = answer ≡ verdict file
+Checked file answer = values answer ≡ values (verdict file)

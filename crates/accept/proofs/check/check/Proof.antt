@@ -1,6 +1,6 @@
 -- `check::check` answers the verdict. Assumes nothing.
 use mathlib.Core.Path.{sym, ap, _∙_}
-use Rattle.accept.specs.Check.{answered, verdict, Checked}
+use Rattle.accept.specs.Check.{answered, verdict, values, Checked}
 use Rattle.accept.specs.declared.check.Answer.the-variants.{Accepted}
 use borrow.Author.Needs.{needs}
 use Rattle.accept.proofs.check.check.Statement.{statement}
@@ -10,13 +10,13 @@ returns : tie.Need-returns
 unfolding Checked verdict answered
 returns c =
     let s = c .before .before in
-    ap Accepted (c .of .ensures) ∙ ap answered (sym (s .state .given .1) ∙ s .before .before .survey .ensures)
+    ap values (ap Accepted (c .of .ensures) ∙ ap answered (sym (s .state .given .1) ∙ s .before .before .survey .ensures))
 
 returns-2 : tie.Need-returns-2
 unfolding Checked verdict answered
 returns-2 c =
     let s = c .before in
-    ap answered (sym (s .num .given .1) ∙ s .before .before .survey .ensures)
+    ap values (ap answered (sym (s .num .given .1) ∙ s .before .before .survey .ensures))
 
 pub check-spec : {M : Type 1} → statement M
 check-spec = tie.close (tie.spec (λ c κs. search needs) (λ c. search needs) (λ c κs. search needs) (λ c. search needs) returns returns-2)

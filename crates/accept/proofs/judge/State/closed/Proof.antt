@@ -1,7 +1,7 @@
 -- `judge::State::closed` is `closed`: each way out is the case that its tests say. Assumes nothing.
 use borrow.Author.Tests.{eq-eqb, ne-eqb, not-true, not-false}
 use native.Mathlib.Omega.{arith}
-use mathlib.Core.Path.{sym, subst, _∙_}
+use mathlib.Core.Path.{refl, sym, subst, _∙_}
 use Rattle.accept.specs.Judge.{closed, Ends}
 use borrow.Author.Needs.{needs}
 use Rattle.accept.proofs.judge.State.closed.Statement.{statement}
@@ -23,7 +23,7 @@ returns-2 : tie.Need-returns-2
 unfolding closed
 returns-2 c =
     let n = c .before .before .before .before in
-    rw (n .stop .given .1, sym (c .before .before .has .ensures) ∙ not-false _ (c .before .if1 .left), ne-eqb (n .stop .given .0 .1 .0) 0 (λ z. omega arith))
+    rw (n .stop .given .1, sym (c .before .before .has .ensures) ∙ not-false _ (c .before .if1 .left), ne-eqb (n .stop .given .0 .1 .0) 0 (λ z. omega arith)) refl
 
 returns-3 : tie.Need-returns-3
 unfolding closed

@@ -1,4 +1,5 @@
 -- `order::Due::after` is `dueAfter`. Assumes nothing.
+use mathlib.Core.Path.{refl}
 use borrow.Author.Tests.{ne-eqb}
 use Rattle.tables.specs.Order.{dueAfter}
 use borrow.Author.Needs.{needs}
@@ -7,23 +8,23 @@ use Rattle.tables.proofs.order.Due.after.Tie as tie
 
 returns : tie.Need-returns
 unfolding dueAfter
-returns c = rw (c .match .keys1)
+returns c = rw (c .match .keys1) refl
 
 returns-2 : tie.Need-returns-2
 unfolding dueAfter
-returns-2 c = rw (c .match .keys2)
+returns-2 c = rw (c .match .keys2) refl
 
 returns-3 : tie.Need-returns-3
 unfolding dueAfter
-returns-3 c = rw (c .match .keys3)
+returns-3 c = rw (c .match .keys3) refl
 
 returns-4 : tie.Need-returns-4
 unfolding dueAfter
-returns-4 c = rw (c .match .keys4)
+returns-4 c = rw (c .match .keys4) refl
 
 returns-5 : tie.Need-returns-5
 unfolding dueAfter
-returns-5 c = rw (c .match .keys5)
+returns-5 c = rw (c .match .keys5) refl
 
 returns-6 : tie.Need-returns-6
 unfolding dueAfter
@@ -31,23 +32,23 @@ returns-6 c = rw (c .before .match .keys6) (c .after-results .ensures)
 
 returns-7 : tie.Need-returns-7
 unfolding dueAfter
-returns-7 c = rw (c .match .keys7)
+returns-7 c = rw (c .match .keys7) refl
 
 returns-8 : tie.Need-returns-8
 unfolding dueAfter
-returns-8 c = rw (c .match .keys8)
+returns-8 c = rw (c .match .keys8) refl
 
 returns-9 : tie.Need-returns-9
 unfolding dueAfter
-returns-9 c = rw (c .match .keys9)
+returns-9 c = rw (c .match .keys9) refl
 
 returns-10 : tie.Need-returns-10
 unfolding dueAfter
-returns-10 c = rw (c .match .keys10)
+returns-10 c = rw (c .match .keys10) refl
 
 returns-11 : tie.Need-returns-11
 unfolding dueAfter
-returns-11 c = rw (c .match .keys11)
+returns-11 c = rw (c .match .keys11) refl
 
 returns-12 : tie.Need-returns-12
 unfolding dueAfter

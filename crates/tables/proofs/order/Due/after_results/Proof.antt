@@ -1,4 +1,5 @@
 -- `order::Due::after_results` is `dueAfterResults`. Assumes nothing.
+use mathlib.Core.Path.{refl}
 use borrow.Author.Tests.{ne-eqb}
 use Rattle.tables.specs.Order.{dueAfterResults}
 use Rattle.tables.proofs.order.Due.after_results.Statement.{statement}
@@ -6,11 +7,11 @@ use Rattle.tables.proofs.order.Due.after_results.Tie as tie
 
 returns : tie.Need-returns
 unfolding dueAfterResults
-returns c = rw (c .match .keys1)
+returns c = rw (c .match .keys1) refl
 
 returns-2 : tie.Need-returns-2
 unfolding dueAfterResults
-returns-2 c = rw (c .match .keys2)
+returns-2 c = rw (c .match .keys2) refl
 
 returns-3 : tie.Need-returns-3
 unfolding dueAfterResults

@@ -1,4 +1,5 @@
 -- `table::Setup::classes` is `classesOf`. Assumes nothing.
+use mathlib.Core.Path.{refl}
 use borrow.Author.Tests.{ne-eqb}
 use Rattle.tables.specs.Table.{classesOf}
 use Rattle.tables.proofs.table.Setup.classes.Statement.{statement}
@@ -6,11 +7,11 @@ use Rattle.tables.proofs.table.Setup.classes.Tie as tie
 
 returns : tie.Need-returns
 unfolding classesOf
-returns c = rw (c .match .keys1)
+returns c = rw (c .match .keys1) refl
 
 returns-2 : tie.Need-returns-2
 unfolding classesOf
-returns-2 c = rw (c .match .keys2)
+returns-2 c = rw (c .match .keys2) refl
 
 returns-3 : tie.Need-returns-3
 unfolding classesOf

@@ -1,7 +1,7 @@
 -- `table::Setup::row_for` is `rowFor`. Assumes nothing.
 use borrow.Author.Tests.{ne-eqb}
 use Prim.Native.Nat.{ℕ, _+_}
-use mathlib.Core.Path.{ap}
+use mathlib.Core.Path.{refl, ap}
 use Rattle.rules.specs.declared.Rules.{Rules}
 use Rattle.tables.specs.Table.{rowOf, rowFor, row0B, row0F}
 use borrow.Author.Needs.{needs}
@@ -10,39 +10,39 @@ use Rattle.tables.proofs.table.Setup.row_for.Tie as tie
 
 returns : tie.Need-returns
 unfolding rowFor rowOf
-returns c = rw (c .match .keys1)
+returns c = rw (c .match .keys1) refl
 
 returns-2 : tie.Need-returns-2
 unfolding rowFor rowOf
-returns-2 c = rw (c .match .keys2)
+returns-2 c = rw (c .match .keys2) refl
 
 returns-3 : tie.Need-returns-3
 unfolding rowFor rowOf
-returns-3 c = rw (c .match .keys3)
+returns-3 c = rw (c .match .keys3) refl
 
 returns-4 : tie.Need-returns-4
 unfolding rowFor rowOf
-returns-4 c = rw (c .match .keys4)
+returns-4 c = rw (c .match .keys4) refl
 
 returns-5 : tie.Need-returns-5
 unfolding rowFor rowOf
-returns-5 c = rw (c .match .keys5)
+returns-5 c = rw (c .match .keys5) refl
 
 returns-6 : tie.Need-returns-6
 unfolding rowFor rowOf
-returns-6 c = rw (c .match .keys6)
+returns-6 c = rw (c .match .keys6) refl
 
 returns-7 : tie.Need-returns-7
 unfolding rowFor rowOf
-returns-7 c = rw (c .match .keys7)
+returns-7 c = rw (c .match .keys7) refl
 
 returns-8 : tie.Need-returns-8
 unfolding rowFor rowOf
-returns-8 c = rw (c .match .keys8)
+returns-8 c = rw (c .match .keys8) refl
 
 returns-9 : tie.Need-returns-9
 unfolding rowFor rowOf
-returns-9 c = rw (c .match .keys9)
+returns-9 c = rw (c .match .keys9) refl
 
 returns-10 : tie.Need-returns-10
 unfolding rowFor
