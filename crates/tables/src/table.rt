@@ -7,8 +7,9 @@ use rules::record_word;
 use words::word;
 ghost use mathlib.Core.Path.{_≡_};
 ghost use mathlib.Core.List.{[]};
+ghost use Prim.Native.Nat.{_+_};
 ghost use Rattle.words.specs.Words.{wordsOf};
-ghost use Rattle.tables.specs.Table.{bandRules, bandsOf, levelsOf, classesOf, learnt, slimOf, rowFor, profileLevels};
+ghost use Rattle.tables.specs.Table.{bandRules, bandsOf, levelsOf, classesOf, learnt, slimOf, row0B, row0F, rowOf, rowFor, profileLevels};
 
 // Fills up a list of rules, and is never asked.
 const NO_RULE: Rule = Rule {
@@ -298,7 +299,31 @@ const STATISTICS: Row = Row {
     },
 };
 
-// Tab. B.1.16, words 3 to 5 where a buffer record has bands: as words 2 to 4 of the spectrum.
+// Tab. B.1.13, statistics: of no classes. The long form is allowed.
+const HISTOGRAM: Row = Row {
+    listed: true,
+    least: 2,
+    exact: true,
+    text: false,
+    rules: NO_RULES,
+    logger: false,
+    width: 0,
+    subs: NO_SUBS,
+};
+
+// Tab. B.1.16, header of the file from the buffer: before records of no words.
+const LOGGER: Row = Row {
+    listed: true,
+    least: 8,
+    exact: false,
+    text: false,
+    rules: NO_RULES,
+    logger: true,
+    width: 0,
+    subs: NO_SUBS,
+};
+
+// Words 3 to 5 of it where a buffer record has bands: as words 2 to 4 of the spectrum.
 const OCTAVE_BANDS: Rules = Rules {
     count: 3,
     list: [
@@ -377,6 +402,34 @@ pub struct Setup {
     pub third: u16,
 }
 
+// The row of an id, where no block before it matters.
+fn row_of(id: u16) -> Row
+    ensures { λ r. ⌜ r ≡ rowOf id ⌝ }
+{
+    match id {
+        0x01 => FILE_HEADER,
+        0x02 => UNIT,
+        0x03 => TITLE,
+        0x04 => SETTINGS,
+        0x05 => PROFILES,
+        0x07 => RESULTS,
+        0x0E => OCTAVE,
+        0x10 => THIRD,
+        0x09 => STATISTICS,
+        0x0B => HISTOGRAM,
+        0x0F => LOGGER,
+        _ => UNLISTED,
+    }
+}
+
+fn histogram_row(classes: u16) -> Row
+    ensures { λ r. ⌜ r ≡ row0B classes ⌝ }
+{
+    let mut row = HISTOGRAM;
+    row.least = 2 * (classes as usize) + 2;
+    row
+}
+
 fn band_rules(bands: u16) -> Rules
     ensures { λ r. ⌜ r ≡ bandRules bands ⌝ }
 {
@@ -385,6 +438,16 @@ fn band_rules(bands: u16) -> Rules
         48 => THIRD_BANDS,
         _ => NO_RULES,
     }
+}
+
+// A logger header before records of so many levels.
+fn logger_row(bands: u16, profiles: u16) -> Row
+    ensures { λ r. ⌜ r ≡ row0F (bandRules bands) (profiles + bands) ⌝ }
+{
+    let mut row = LOGGER;
+    row.rules = band_rules(bands);
+    row.width = profiles as usize + bands as usize;
+    row
 }
 
 // The levels of bands in a buffer record. The 945 writes 0 for buffering on.
@@ -434,38 +497,9 @@ impl Setup {
     {
         let id = header % 256;
         match id {
-            0x01 => FILE_HEADER,
-            0x02 => UNIT,
-            0x03 => TITLE,
-            0x04 => SETTINGS,
-            0x05 => PROFILES,
-            0x07 => RESULTS,
-            0x0E => OCTAVE,
-            0x10 => THIRD,
-            0x09 => STATISTICS,
-            // Tab. B.1.13, statistics.
-            0x0B => Row {
-                listed: true,
-                least: 2 * (self.classes(header / 256) as usize) + 2,
-                exact: true,
-                text: false,
-                rules: NO_RULES,
-                logger: false,
-                width: 0,
-                subs: NO_SUBS,
-            },
-            // Tab. B.1.16, header of the file from the buffer.
-            0x0F => Row {
-                listed: true,
-                least: 8,
-                exact: false,
-                text: false,
-                rules: band_rules(self.bands),
-                logger: true,
-                width: self.profiles as usize + self.bands as usize,
-                subs: NO_SUBS,
-            },
-            _ => UNLISTED,
+            0x0B => histogram_row(self.classes(header / 256)),
+            0x0F => logger_row(self.bands, self.profiles),
+            _ => row_of(id),
         }
     }
 
