@@ -103,18 +103,8 @@ impl State {
         ensures { λ r. ⌜ r ≡ firstState ⌝ }
     {
         State {
-            due: Due {
-                one: 0x01,
-                other: 0x01,
-            },
-            setup: Setup {
-                function: 0,
-                bands: 0,
-                profiles: 0,
-                first: 0,
-                second: 0,
-                third: 0,
-            },
+            due: Due::only(0x01),
+            setup: Setup::none(),
             starts: Starts::none(),
         }
     }
@@ -191,13 +181,7 @@ impl State {
         ensures { λ r. ⌜ r ≡ judgedStep self (wordsOf (now (file .entry))) step ⌝ }
     {
         match step {
-            Step::Block {
-                id,
-                nn,
-                start,
-                length,
-                next,
-            } => self.seen(front(rest(file, start), length), start),
+            Step::Block { start, length, .. } => self.seen(front(rest(file, start), length), start),
             Step::Over(stop) => self.closed(stop),
         }
     }
@@ -212,14 +196,7 @@ fn judge_blocks(file: &[u8]) -> Judged
     loop {
         let step = cursor.step(file);
         let judged = state.judged(file, step);
-        let Step::Block {
-            id,
-            nn,
-            start,
-            length,
-            next,
-        } = step
-        else {
+        let Step::Block { next, .. } = step else {
             return judged;
         };
         let Judged::Passed(passed) = judged else {

@@ -1,7 +1,7 @@
 // The order of the listed blocks: after each, what is due.
 use crate::table::Setup;
 ghost use mathlib.Core.Path.{_≡_};
-ghost use Rattle.tables.specs.Order.{keyOf, isDue, passedOver, dueAfterResults, dueAfter};
+ghost use Rattle.tables.specs.Order.{keyOf, either, only, isDue, passedOver, dueAfterResults, dueAfter};
 
 // The blocks that may come next, by their keys: one or another; both are the same where only one is due.
 pub struct Due {
@@ -12,11 +12,6 @@ pub struct Due {
 // What stands at the end.
 const END_MARKER: u16 = 0xFFFF;
 
-const STATISTICS_OR_END: Due = Due {
-    one: 0x09,
-    other: END_MARKER,
-};
-
 // What a block is in the order, by its first word: its id; the histograms 0B differ by their masks.
 pub fn key_of(header: u16) -> u16
     ensures { λ r. ⌜ r ≡ keyOf header ⌝ }
@@ -26,6 +21,18 @@ pub fn key_of(header: u16) -> u16
 }
 
 impl Due {
+    fn either(one: u16, other: u16) -> Due
+        ensures { λ r. ⌜ r ≡ either one other ⌝ }
+    {
+        Due { one, other }
+    }
+
+    pub fn only(key: u16) -> Due
+        ensures { λ r. ⌜ r ≡ only key ⌝ }
+    {
+        Due::either(key, key)
+    }
+
     pub fn has(self, key: u16) -> bool
         ensures { λ r. ⌜ r ≡ isDue self key ⌝ }
     {
@@ -40,10 +47,7 @@ impl Due {
         ensures { λ r. ⌜ r ≡ passedOver self ⌝ }
     {
         if self.one == 0x01 {
-            Due {
-                one: 0x00,
-                other: 0x00,
-            }
+            Due::only(0x00)
         } else {
             self
         }
@@ -53,15 +57,9 @@ impl Due {
         ensures { λ r. ⌜ r ≡ dueAfterResults function ⌝ }
     {
         match function {
-            2 => Due {
-                one: 0x0E,
-                other: 0x0E,
-            },
-            3 => Due {
-                one: 0x10,
-                other: 0x10,
-            },
-            _ => STATISTICS_OR_END,
+            2 => Due::only(0x0E),
+            3 => Due::only(0x10),
+            _ => Due::either(0x09, END_MARKER),
         }
     }
 
@@ -70,45 +68,18 @@ impl Due {
         ensures { λ r. ⌜ r ≡ dueAfter setup key ⌝ }
     {
         match key {
-            0x01 => Due {
-                one: 0x02,
-                other: 0x02,
-            },
-            0x02 => Due {
-                one: 0x03,
-                other: 0x03,
-            },
-            0x03 => Due {
-                one: 0x04,
-                other: 0x04,
-            },
-            0x04 => Due {
-                one: 0x05,
-                other: 0x05,
-            },
-            0x05 => Due {
-                one: 0x0F,
-                other: 0x07,
-            },
+            0x01 => Due::only(0x02),
+            0x02 => Due::only(0x03),
+            0x03 => Due::only(0x04),
+            0x04 => Due::only(0x05),
+            0x05 => Due::either(0x0F, 0x07),
             0x07 => Due::after_results(setup.function),
-            0x0E => STATISTICS_OR_END,
-            0x10 => STATISTICS_OR_END,
-            0x09 => Due {
-                one: 0x010B,
-                other: 0x010B,
-            },
-            0x010B => Due {
-                one: 0x020B,
-                other: 0x020B,
-            },
-            0x020B => Due {
-                one: 0x040B,
-                other: 0x040B,
-            },
-            _ => Due {
-                one: END_MARKER,
-                other: END_MARKER,
-            },
+            0x0E => Due::either(0x09, END_MARKER),
+            0x10 => Due::either(0x09, END_MARKER),
+            0x09 => Due::only(0x010B),
+            0x010B => Due::only(0x020B),
+            0x020B => Due::only(0x040B),
+            _ => Due::only(END_MARKER),
         }
     }
 }

@@ -9,7 +9,7 @@ ghost use mathlib.Core.Path.{_≡_};
 ghost use mathlib.Core.List.{[]};
 ghost use Prim.Native.Nat.{_+_};
 ghost use Rattle.words.specs.Words.{wordsOf};
-ghost use Rattle.tables.specs.Table.{bandRules, bandsOf, levelsOf, classesOf, learnt, slimOf, row0B, row0F, rowOf, rowFor, profileLevels};
+ghost use Rattle.tables.specs.Table.{bandRules, bandsOf, levelsOf, noSetup, classesOf, learnt, slimOf, row0B, row0F, rowOf, rowFor, profileLevels};
 
 // Fills up a list of rules, and is never asked.
 const NO_RULE: Rule = Rule {
@@ -480,6 +480,20 @@ fn profile_levels(b: &[u8]) -> u16
 }
 
 impl Setup {
+    // What is known before the first block.
+    pub fn none() -> Setup
+        ensures { λ r. ⌜ r ≡ noSetup ⌝ }
+    {
+        Setup {
+            function: 0,
+            bands: 0,
+            profiles: 0,
+            first: 0,
+            second: 0,
+            third: 0,
+        }
+    }
+
     // The classes of the histogram with the mask nn.
     fn classes(self, nn: u16) -> u16
         ensures { λ r. ⌜ r ≡ classesOf self nn ⌝ }

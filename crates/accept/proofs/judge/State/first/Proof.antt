@@ -4,7 +4,7 @@ use Rattle.accept.proofs.judge.State.first.Statement.{statement}
 use Rattle.accept.proofs.judge.State.first.Tie as tie
 
 returns : tie.Need-returns
-returns c = rw (c .none .ensures)
+returns c = rw (c .none2 .ensures, c .before .none .ensures, c .before .before .only .ensures)
 
 pub first-spec : {M : Type 1} → statement M
-first-spec = tie.close (tie.spec (λ c κs. search needs) returns)
+first-spec = tie.close (tie.spec (λ c κs. search needs) (λ c κs. search needs) (λ c κs. search needs) returns)
