@@ -78,6 +78,7 @@ skipped s = record { due = passedOver (s .due); setup = s .setup; starts = s .st
 unfoldable pub entered : State → ℕ → ℕ → Setup → State
 entered s key at known = record { due = dueAfter known key; setup = known; starts = noted (s .starts) (placeOf key) at }
 
+-- the same by the block's own words; no state depends on raw contents
 unfoldable pub enteredBy : State → ℕ → List ℕ → State
 enteredBy s at b = entered s (keyOf (getD b 0 0)) at (learnt (s .setup) (slimOf b []))
 
@@ -124,7 +125,8 @@ misfit file = eqb (length file % 2) 1 || ltb 65536 (length file)
 unfoldable pub surveyed : List ℕ → Judged
 surveyed file = cond (misfit file) (Denied 1 0) (judge firstState (walked (wordsOf file)))
 
--- a step that starts in a file of at most 32,768 words
+-- ---- what the code asks of a step: it starts in a file of at most 32,768 words
+
 abbrev pub Ends : Stop → Type 0
 Ends (End at left) = at < 65536
 Ends (Refused num at) = Unit {0}

@@ -1,53 +1,53 @@
 -- `table::row_of` is `rowOf`. Assumes nothing.
 use borrow.Author.Tests.{ne-eqb}
-use mathlib.Core.Path.{refl}
+use mathlib.Core.Path.{sym, ap}
 use Rattle.tables.specs.Table.{rowOf}
 use Rattle.tables.proofs.table.row_of.Statement.{statement}
 use Rattle.tables.proofs.table.row_of.Tie as tie
 
 returns : tie.Need-returns
 unfolding rowOf
-returns c = rw (c .match .keys1) refl
+returns c = sym (ap rowOf (c .match .keys1))
 
 returns-2 : tie.Need-returns-2
 unfolding rowOf
-returns-2 c = rw (c .match .keys2) refl
+returns-2 c = sym (ap rowOf (c .match .keys2))
 
 returns-3 : tie.Need-returns-3
 unfolding rowOf
-returns-3 c = rw (c .match .keys3) refl
+returns-3 c = sym (ap rowOf (c .match .keys3))
 
 returns-4 : tie.Need-returns-4
 unfolding rowOf
-returns-4 c = rw (c .match .keys4) refl
+returns-4 c = sym (ap rowOf (c .match .keys4))
 
 returns-5 : tie.Need-returns-5
 unfolding rowOf
-returns-5 c = rw (c .match .keys5) refl
+returns-5 c = sym (ap rowOf (c .match .keys5))
 
 returns-6 : tie.Need-returns-6
 unfolding rowOf
-returns-6 c = rw (c .match .keys6) refl
+returns-6 c = sym (ap rowOf (c .match .keys6))
 
 returns-7 : tie.Need-returns-7
 unfolding rowOf
-returns-7 c = rw (c .match .keys7) refl
+returns-7 c = sym (ap rowOf (c .match .keys7))
 
 returns-8 : tie.Need-returns-8
 unfolding rowOf
-returns-8 c = rw (c .match .keys8) refl
+returns-8 c = sym (ap rowOf (c .match .keys8))
 
 returns-9 : tie.Need-returns-9
 unfolding rowOf
-returns-9 c = rw (c .match .keys9) refl
+returns-9 c = sym (ap rowOf (c .match .keys9))
 
 returns-10 : tie.Need-returns-10
 unfolding rowOf
-returns-10 c = rw (c .match .keys10) refl
+returns-10 c = sym (ap rowOf (c .match .keys10))
 
 returns-11 : tie.Need-returns-11
 unfolding rowOf
-returns-11 c = rw (c .match .keys11) refl
+returns-11 c = sym (ap rowOf (c .match .keys11))
 
 returns-12 : tie.Need-returns-12
 unfolding rowOf
