@@ -22,8 +22,9 @@ use Rattle.rules.specs.Block.{kept}
 use Rattle.rules.specs.Slim.{Slim, wordIn}
 use Rattle.rules.proofs.Choice.{cond-second}
 use Rattle.rules.proofs.Reading.{exact-word, slim-id}
-use Rattle.tables.specs.declared.table.Setup.{Setup}
-use Rattle.tables.specs.Table.{rowOf, rowFor, slimOf}
+use Rattle.tables.specs.declared.setup.Setup.{Setup}
+use Rattle.tables.specs.Table.{rowOf}
+use Rattle.tables.specs.Setup.{rowFor, slimOf}
 use Rattle.tables.specs.Order.{keyOf}
 use Rattle.accept.specs.declared.judge.Starts.{Starts}
 use Rattle.accept.specs.declared.judge.State.{State}

@@ -14,7 +14,8 @@ use Rattle.rules.specs.Block.{recordAt, recordWord}
 use Rattle.rules.specs.Slim.{Slim, slimBy, headBy, wordIn, subWordIn}
 use Rattle.rules.proofs.Choice.{cond-second, or-neither}
 use Rattle.rules.proofs.Reading.{plain-word, record-word}
-use Rattle.tables.specs.Table.{rowOf, slimOf}
+use Rattle.tables.specs.Table.{rowOf}
+use Rattle.tables.specs.Setup.{slimOf}
 use Rattle.tables.specs.Order.{keyOf}
 use Rattle.accept.specs.declared.judge.State.{State}
 use Rattle.accept.specs.declared.judge.Judged.the-variants.{Passed}

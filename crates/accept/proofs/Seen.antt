@@ -15,7 +15,8 @@ use Rattle.rules.specs.declared.Tested.the-variants.{Good, Bad}
 use Rattle.rules.specs.Block.{kept, behind}
 use Rattle.rules.proofs.Choice.{cond-first}
 use Rattle.rules.proofs.BlockLaws.{no-bad, behind-good}
-use Rattle.tables.specs.Table.{rowOf, rowFor}
+use Rattle.tables.specs.Table.{rowOf}
+use Rattle.tables.specs.Setup.{rowFor}
 use Rattle.tables.specs.Order.{keyOf, isDue}
 use Rattle.tables.proofs.TableLaws.{row-listed}
 use Rattle.accept.specs.declared.judge.State.{State}

@@ -19,7 +19,7 @@ use Rattle.rules.specs.Block.{kept, behind}
 use Rattle.accept.specs.declared.judge.State.{State}
 use Rattle.accept.specs.declared.judge.Judged.{Judged}
 use Rattle.accept.specs.declared.judge.Judged.the-variants.{Passed, Denied}
-use Rattle.tables.specs.Table.{rowFor}
+use Rattle.tables.specs.Setup.{rowFor}
 use Rattle.tables.specs.Order.{keyOf, isDue}
 use Rattle.accept.specs.Judge.{firstState, skipped, enteredBy, testedBy, judgedBy, seenBy, seenIn, judgedStep, judge, Near}
 

@@ -15,13 +15,13 @@ use Rattle.rules.specs.declared.Row.{Row}
 use Rattle.rules.specs.declared.Tested.{Tested}
 use Rattle.rules.specs.declared.Tested.the-variants.{Good, Bad}
 use Rattle.rules.specs.Block.{kept, behind}
-use Rattle.tables.specs.declared.table.Setup.{Setup}
+use Rattle.tables.specs.declared.setup.Setup.{Setup}
 use Rattle.tables.specs.declared.order.Due.{Due}
 use Rattle.accept.specs.declared.judge.Starts.{Starts}
 use Rattle.accept.specs.declared.judge.State.{State}
 use Rattle.accept.specs.declared.judge.Judged.{Judged}
 use Rattle.accept.specs.declared.judge.Judged.the-variants.{Passed, Denied}
-use Rattle.tables.specs.Table.{noSetup, slimOf, learnt, rowFor}
+use Rattle.tables.specs.Setup.{noSetup, slimOf, learnt, rowFor}
 use Rattle.tables.specs.Order.{keyOf, only, isDue, passedOver, dueAfter}
 
 -- "65,535 stands for an absent block"

@@ -8,7 +8,8 @@ use Rattle.words.specs.Words.{low, wordsOf}
 use Rattle.blocks.specs.Walk.{broken, ended, cut, frontOf, rawOf, Part, partsOf, walked}
 use Rattle.rules.specs.Slim.{Slim, wordIn}
 use Rattle.accept.specs.declared.judge.Starts.{Starts}
-use Rattle.tables.specs.Table.{rowOf, slimOf}
+use Rattle.tables.specs.Table.{rowOf}
+use Rattle.tables.specs.Setup.{slimOf}
 use Rattle.tables.specs.Order.{keyOf}
 use Rattle.accept.specs.Judge.{absent, placeOf}
 

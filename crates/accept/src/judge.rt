@@ -6,7 +6,7 @@ use rules::Tested;
 use rules::keeps;
 use tables::order::Due;
 use tables::order::key_of;
-use tables::table::Setup;
+use tables::setup::Setup;
 use words::front;
 use words::rest;
 use words::word;

@@ -6,7 +6,8 @@ use Rattle.words.specs.Words.{wordsOf, bytesOf, longAt}
 use Rattle.blocks.specs.Walk.{longForm, fronted, frontOf, rawOf, walk, walked}
 use Rattle.rules.specs.Block.{then, behind, allows, obeyed, ruled, rulesIn, recorded, records, sized, nulled, readable, wholeRecords, buffered, kept}
 use Rattle.rules.specs.Slim.{counted, cutTo, slimRecords, headBy, slimBy, wordIn, subWordIn}
-use Rattle.tables.specs.Table.{rowOf, slimOf, bandsOf, levelsOf, idIn, learnt, rowFor}
+use Rattle.tables.specs.Table.{rowOf}
+use Rattle.tables.specs.Setup.{slimOf, bandsOf, levelsOf, idIn, learnt, rowFor}
 use Rattle.tables.specs.Order.{keyOf, isDue, passedOver, dueAfter}
 use Rattle.accept.specs.Judge.{placeOf, noted, skipped, entered, enteredBy, testedBy, judgedBy, seenBy, seenIn, closed, judge, misfit, surveyed}
 use Rattle.accept.specs.Check.{recordOf, answered, verdict, values}

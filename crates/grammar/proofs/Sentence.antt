@@ -10,9 +10,10 @@ use lib.Dec.{eqb}
 use borrow.Author.Tests.{eqb-true}
 use Rattle.words.specs.Words.{low}
 use Rattle.blocks.specs.Walk.{endMarker, Part}
-use Rattle.tables.specs.declared.table.Setup.{Setup}
+use Rattle.tables.specs.declared.setup.Setup.{Setup}
 use Rattle.tables.specs.declared.order.Due.{Due}
-use Rattle.tables.specs.Table.{noSetup, rowOf}
+use Rattle.tables.specs.Table.{rowOf}
+use Rattle.tables.specs.Setup.{noSetup}
 use Rattle.tables.specs.Order.{either, only, isDue, passedOver, dueAfter, dueAfterResults}
 use Rattle.grammar.specs.Grammar.{Blocks, knownAfter, End, end, pass, Then, here, Either, Spectrum, Statistics, Measurement, Buffer, Ordered, ordered}
 use Rattle.grammar.proofs.Takes.{wordOf, takes, takes-either, key-listed, taken, listed-takes, takes-passed}

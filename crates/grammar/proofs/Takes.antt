@@ -17,9 +17,10 @@ use Rattle.rules.specs.declared.Tested.the-variants.{Good, Bad}
 use Rattle.rules.specs.Block.{kept, behind}
 use Rattle.rules.specs.Slim.{slimBy, wordIn, subWordIn}
 use Rattle.rules.proofs.Choice.{and-both}
-use Rattle.tables.specs.declared.table.Setup.{Setup}
+use Rattle.tables.specs.declared.setup.Setup.{Setup}
 use Rattle.tables.specs.declared.order.Due.{Due}
-use Rattle.tables.specs.Table.{rowOf, rowFor, slimOf, learnt, idIn}
+use Rattle.tables.specs.Table.{rowOf}
+use Rattle.tables.specs.Setup.{rowFor, slimOf, learnt, idIn}
 use Rattle.tables.specs.Order.{keyOf, either, only, isDue, passedOver, dueAfter}
 use Rattle.tables.proofs.TableLaws.{row-listed}
 use Rattle.accept.specs.declared.judge.State.{State}

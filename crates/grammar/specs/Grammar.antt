@@ -11,8 +11,9 @@ use Rattle.words.specs.Words.{low, wordsOf}
 use Rattle.blocks.specs.Walk.{Part, joined, Wholes}
 use Rattle.rules.specs.declared.Tested.the-variants.{Good}
 use Rattle.rules.specs.Block.{kept}
-use Rattle.tables.specs.declared.table.Setup.{Setup}
-use Rattle.tables.specs.Table.{rowOf, rowFor, slimOf, learnt, noSetup}
+use Rattle.tables.specs.declared.setup.Setup.{Setup}
+use Rattle.tables.specs.Table.{rowOf}
+use Rattle.tables.specs.Setup.{rowFor, slimOf, learnt, noSetup}
 use Rattle.tables.specs.Order.{keyOf}
 use Rattle.accept.specs.Check.{verdict}
 use Rattle.accept.specs.declared.check.Record.{Record}

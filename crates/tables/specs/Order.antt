@@ -4,7 +4,7 @@ use Prim.Native.Nat.{ℕ}
 use lib.Dec.{eqb}
 use Rattle.words.specs.Words.{low}
 use Rattle.blocks.specs.Walk.{endMarker}
-use Rattle.tables.specs.declared.table.Setup.{Setup}
+use Rattle.tables.specs.declared.setup.Setup.{Setup}
 use Rattle.tables.specs.declared.order.Due.{Due}
 
 -- what a block is in the order: its id; "three 0B with nn 01, 02, 04" are three

@@ -1,5 +1,5 @@
 // The order of the listed blocks: after each, what is due.
-use crate::table::Setup;
+use crate::setup::Setup;
 ghost use mathlib.Core.Path.{_≡_};
 ghost use Rattle.tables.specs.Order.{keyOf, either, only, isDue, passedOver, dueAfterResults, dueAfter};
 

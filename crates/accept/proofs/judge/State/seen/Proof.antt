@@ -3,7 +3,7 @@ use borrow.Author.Tests.{not-true, not-false}
 use mathlib.Core.Path.{sym, ap, subst⁻¹, _∙_}
 use Rattle.words.specs.Words.{wordsOf}
 use Rattle.rules.specs.Block.{Small}
-use Rattle.tables.specs.Table.{rowFor}
+use Rattle.tables.specs.Setup.{rowFor}
 use Rattle.tables.specs.Order.{keyOf, isDue}
 use Rattle.accept.specs.declared.judge.Judged.the-variants.{Passed}
 use Rattle.tables.proofs.TableLaws.{row-small}

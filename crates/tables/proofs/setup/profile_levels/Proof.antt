@@ -1,12 +1,12 @@
--- `table::profile_levels` is `profileLevels`. Assumes nothing.
+-- `setup::profile_levels` is `profileLevels`. Assumes nothing.
 use mathlib.Core.Path.{ap, ap₂, _∙_}
 use Prim.Native.Nat.{_+_}
 use native.Mathlib.Omega.{arith}
-use Rattle.tables.specs.Table.{levelsOf, profileLevels}
+use Rattle.tables.specs.Setup.{levelsOf, profileLevels}
 use Rattle.tables.proofs.TableLaws.{levels-small}
 use borrow.Author.Needs.{needs}
-use Rattle.tables.proofs.table.profile_levels.Statement.{statement}
-use Rattle.tables.proofs.table.profile_levels.Tie as tie
+use Rattle.tables.proofs.setup.profile_levels.Statement.{statement}
+use Rattle.tables.proofs.setup.profile_levels.Tie as tie
 
 add-result : tie.Need-add-result
 add-result c = omega (arith, levels-small _ _ (c .levels-of3 .ensures), levels-small _ _ (c .before .before .levels-of2 .ensures))

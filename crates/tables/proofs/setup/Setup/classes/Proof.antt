@@ -1,9 +1,9 @@
--- `table::Setup::classes` is `classesOf`. Assumes nothing.
+-- `setup::Setup::classes` is `classesOf`. Assumes nothing.
 use mathlib.Core.Path.{refl}
 use borrow.Author.Tests.{ne-eqb}
-use Rattle.tables.specs.Table.{classesOf}
-use Rattle.tables.proofs.table.Setup.classes.Statement.{statement}
-use Rattle.tables.proofs.table.Setup.classes.Tie as tie
+use Rattle.tables.specs.Setup.{classesOf}
+use Rattle.tables.proofs.setup.Setup.classes.Statement.{statement}
+use Rattle.tables.proofs.setup.Setup.classes.Tie as tie
 
 returns : tie.Need-returns
 unfolding classesOf

@@ -1,8 +1,8 @@
--- `table::levels_of` is `levelsOf`. Assumes nothing.
+-- `setup::levels_of` is `levelsOf`. Assumes nothing.
 use borrow.Author.Tests.{eq-eqb, ne-eqb}
-use Rattle.tables.specs.Table.{levelsOf}
-use Rattle.tables.proofs.table.levels_of.Statement.{statement}
-use Rattle.tables.proofs.table.levels_of.Tie as tie
+use Rattle.tables.specs.Setup.{levelsOf}
+use Rattle.tables.proofs.setup.levels_of.Statement.{statement}
+use Rattle.tables.proofs.setup.levels_of.Tie as tie
 
 returns : tie.Need-returns
 unfolding levelsOf

@@ -1,10 +1,11 @@
--- `table::Setup::row_for` is `rowFor`. Assumes nothing.
+-- `setup::Setup::row_for` is `rowFor`. Assumes nothing.
 use borrow.Author.Tests.{ne-eqb}
 use mathlib.Core.Path.{ap, _∙_}
-use Rattle.tables.specs.Table.{row0B, rowFor}
+use Rattle.tables.specs.Table.{row0B}
+use Rattle.tables.specs.Setup.{rowFor}
 use borrow.Author.Needs.{needs}
-use Rattle.tables.proofs.table.Setup.row_for.Statement.{statement}
-use Rattle.tables.proofs.table.Setup.row_for.Tie as tie
+use Rattle.tables.proofs.setup.Setup.row_for.Statement.{statement}
+use Rattle.tables.proofs.setup.Setup.row_for.Tie as tie
 
 returns : tie.Need-returns
 unfolding rowFor

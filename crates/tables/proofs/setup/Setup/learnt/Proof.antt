@@ -1,11 +1,11 @@
--- `table::Setup::learnt` is `learnt` of the slim form. Assumes nothing.
+-- `setup::Setup::learnt` is `learnt` of the slim form. Assumes nothing.
 use mathlib.Core.List.{[]}
 use mathlib.Core.Path.{sym, ap, _∙_}
 use Rattle.words.specs.Words.{low, wordsOf}
 use Rattle.tables.proofs.TableLaws.{learnt-04, learnt-05, learnt-09, learnt-none}
 use borrow.Author.Needs.{needs}
-use Rattle.tables.proofs.table.Setup.learnt.Statement.{statement}
-use Rattle.tables.proofs.table.Setup.learnt.Tie as tie
+use Rattle.tables.proofs.setup.Setup.learnt.Statement.{statement}
+use Rattle.tables.proofs.setup.Setup.learnt.Tie as tie
 
 returns : tie.Need-returns
 returns c =

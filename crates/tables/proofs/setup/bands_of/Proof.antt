@@ -1,9 +1,9 @@
--- `table::bands_of` is `bandsOf`. Assumes nothing.
+-- `setup::bands_of` is `bandsOf`. Assumes nothing.
 use borrow.Author.Tests.{eq-eqb, ne-eqb}
 use native.Mathlib.Omega.{arith}
-use Rattle.tables.specs.Table.{bandsOf}
-use Rattle.tables.proofs.table.bands_of.Statement.{statement}
-use Rattle.tables.proofs.table.bands_of.Tie as tie
+use Rattle.tables.specs.Setup.{bandsOf}
+use Rattle.tables.proofs.setup.bands_of.Statement.{statement}
+use Rattle.tables.proofs.setup.bands_of.Tie as tie
 
 returns : tie.Need-returns
 unfolding bandsOf
