@@ -20,7 +20,7 @@ use Rattle.blocks.proofs.Steps.{walkFrom, walk-start, walk-over, walk-block, st
 use Rattle.rules.specs.declared.Tested.the-variants.{Good}
 use Rattle.rules.specs.Block.{kept}
 use Rattle.rules.specs.Slim.{Slim, wordIn}
-use Rattle.rules.proofs.Choice.{cond-second}
+use Rattle.words.proofs.Choice.{cond-second}
 use Rattle.rules.proofs.Reading.{exact-word, slim-id}
 use Rattle.tables.specs.declared.setup.Setup.{Setup}
 use Rattle.tables.specs.Table.{rowOf}

@@ -12,7 +12,7 @@ use Rattle.words.proofs.WordLaws.{words-length}
 use Rattle.blocks.specs.Walk.{fronted, frontOf, rawOf}
 use Rattle.rules.specs.Block.{recordAt, recordWord}
 use Rattle.rules.specs.Slim.{Slim, slimBy, headBy, wordIn, subWordIn}
-use Rattle.rules.proofs.Choice.{cond-second, or-neither}
+use Rattle.words.proofs.Choice.{cond-second, or-neither}
 use Rattle.rules.proofs.Reading.{plain-word, record-word}
 use Rattle.tables.specs.Table.{rowOf}
 use Rattle.tables.specs.Setup.{slimOf}

@@ -13,7 +13,7 @@ use Rattle.blocks.specs.Walk.{endMarker}
 use Rattle.rules.specs.declared.Tested.{Tested}
 use Rattle.rules.specs.declared.Tested.the-variants.{Good, Bad}
 use Rattle.rules.specs.Block.{kept, behind}
-use Rattle.rules.proofs.Choice.{cond-first}
+use Rattle.words.proofs.Choice.{cond-first}
 use Rattle.rules.proofs.BlockLaws.{no-bad, behind-good}
 use Rattle.tables.specs.Table.{rowOf}
 use Rattle.tables.specs.Setup.{rowFor}

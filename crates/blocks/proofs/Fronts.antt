@@ -9,13 +9,9 @@ use lib.Dec.{ltb, eqb}
 use lib.ListN.{length, getD}
 use borrow.Author.Tests.{ltb-false, eqb-true, eqb-false, le-ltb, ne-eqb}
 use Rattle.words.specs.Words.{low, high, longAt}
+use Rattle.words.proofs.Choice.{cond-second, or-neither}
 use Rattle.words.proofs.WordLaws.{Below}
 use Rattle.blocks.specs.Walk.{Front, broken, ended, cut, endMarker, longForm, fitted, fronted, frontOf, rawOf}
-
--- the first way is not what came out, so the test failed
-pub cond-second : {A : Type 0} (t : Bool) {a b c : A} → cond t a b ≡ c → (a ≡ c → ⊥) → (t ≡ false) × (b ≡ c)
-cond-second true e never = absurd (never e)
-cond-second false e never = (refl, e)
 
 abbrev kind : Front → ℕ
 kind (broken num) = 0
@@ -44,15 +40,11 @@ fitted-cuts n l k e =
     let f : cut l ≡ cut k = p .1 in
     (ltb-false _ _ (p .0), cc)
 
-first-failed : (a b : Bool) → (a || b) ≡ false → a ≡ false
-first-failed true b e = e
-first-failed false b e = refl
-
 -- a block that has its length in its first word has a word
 short-some : (w : ℕ) → longForm w ≡ false → 1 ≤ high w
 unfolding longForm
 short-some w l =
-    let z : (high w ≡ 0 → ⊥) = eqb-false _ _ (first-failed (eqb (high w) 0) (eqb (low w) 0x0B || eqb (low w) 0x14) l) in
+    let z : (high w ≡ 0 → ⊥) = eqb-false _ _ (or-neither (eqb (high w) 0) (eqb (low w) 0x0B || eqb (low w) 0x14) l .0) in
     omega arith
 
 pub fronted-cuts : (w v n k : ℕ) → fronted w v n ≡ cut k → Cuts w v n k

@@ -10,13 +10,14 @@ use lib.ListN.{length, getD, take, drop, length-drop}
 use lib.Seq.{drop-drop, getD-take}
 use borrow.Author.Tests.{ltb-true, ltb-false, lt-ltb, le-ltb}
 use Rattle.words.specs.Words.{low, high}
+use Rattle.words.proofs.Choice.{cond-second}
 use Rattle.blocks.specs.Walk.{Front, broken, ended, cut, frontOf, rawOf, Walk, over, block, walk, walked, stepped, stepAt}
 use Rattle.blocks.specs.declared.Cursor.{Cursor}
 use Rattle.blocks.specs.declared.Stop.{Stop}
 use Rattle.blocks.specs.declared.Stop.the-variants.{End, Refused}
 use Rattle.blocks.specs.declared.Step.{Step}
 use Rattle.blocks.specs.declared.Step.the-variants.{Block, Over}
-use Rattle.blocks.proofs.Fronts.{cond-second, front-cuts, front-ended}
+use Rattle.blocks.proofs.Fronts.{front-cuts, front-ended}
 
 -- ---- the walk, by what stands at its front
 

@@ -10,7 +10,7 @@ use borrow.Author.Tests.{not-true, eqb-false, ne-eqb, ltb-false, le-ltb}
 use Rattle.words.specs.Words.{wordsOf}
 use Rattle.blocks.specs.Walk.{Part, partsOf, joined, walked, Wholes}
 use Rattle.blocks.proofs.Segments.{closes, walk-joined, joined-walk}
-use Rattle.rules.proofs.Choice.{and-both, or-neither}
+use Rattle.words.proofs.Choice.{and-both, or-neither}
 use Rattle.tables.specs.Setup.{noSetup}
 use Rattle.tables.specs.Order.{only}
 use Rattle.accept.specs.declared.check.Answer.the-variants.{Accepted}

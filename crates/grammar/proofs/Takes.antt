@@ -16,7 +16,7 @@ use Rattle.rules.specs.declared.Tested.{Tested}
 use Rattle.rules.specs.declared.Tested.the-variants.{Good, Bad}
 use Rattle.rules.specs.Block.{kept, behind}
 use Rattle.rules.specs.Slim.{slimBy, wordIn, subWordIn}
-use Rattle.rules.proofs.Choice.{and-both}
+use Rattle.words.proofs.Choice.{and-both}
 use Rattle.tables.specs.declared.setup.Setup.{Setup}
 use Rattle.tables.specs.declared.order.Due.{Due}
 use Rattle.tables.specs.Table.{rowOf}

@@ -1,4 +1,3 @@
 -- The laws of the tests and of slim forms. Assumes nothing.
-pub mod Choice
 pub mod BlockLaws
 pub mod Reading

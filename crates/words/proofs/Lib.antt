@@ -1,2 +1,3 @@
--- The laws of words and their bytes. Assumes nothing.
+-- The laws of words and their bytes, and of choices. Assumes nothing.
+pub mod Choice
 pub mod WordLaws
