@@ -88,7 +88,7 @@ step-there ws place start len known f fits p l g =
       row-is = subst (λ (v : List ℕ). rowOf (low (getD v 0 0)) .listed ≡ true) same l;
       setup = known;
       good = subst (λ (v : List ℕ). kept (rowFor known (getD v 0 0)) v ≡ Good) same g;
-      slim = subst (λ (v : List ℕ). slimOf b (take (rawOf b) (drop (start + len) ws)) ≡ slimOf v (take (rawOf v) (drop (start + length v) ws))) same (rw n);
+      slim = rw (block-at ws start len f) (ap (λ (k : ℕ). slimOf b (take (rawOf b) (drop (start + k) ws))) (sym n));
     }
 
 refused : (s s′ : State) (num p : ℕ) → judge s (over (Refused num p)) ≡ Passed s′ → ⊥
