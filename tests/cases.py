@@ -26,15 +26,18 @@ def checked_files():
     yield 'case 1, FFFF', [END], refused(4, 0)
     yield 'case 2, 0C01 alone', [0x0C01], refused(2, 0)
     yield 'case 2, 0601 and five zeros', [0x0601, 0, 0, 0, 0, 0], refused(3, 0)
-    yield 'case 3, unit type 953', words_of(HEADER) + [0x0602, 0, 953, 0, 0, 0], refused(5, 14)
+    yield 'case 3, unit type 953', checked_file_3(), refused(5, 14)
     yield 'case 4, 00AA 0001 after 01', words_of(HEADER) + [0x00AA, 1], refused(3, 12)
-    case_8 = checked_file_8()
-    assert len(case_8.words()) == 78
-    yield accepted('case 8, BUFF1', case_8)
-    yield accepted('case 9, BUFF1 with 0199 before 0F', case_8.put('0F', free(0x0199)))
+    assert len(checked_file_8().words()) == 78
+    yield accepted('case 8, BUFF1', checked_file_8())
+    yield accepted('case 9, BUFF1 with 0199 before 0F', checked_file_9())
     for words, number in ((0x010B, 1), 3), ((0x010B, 3), 2), ((0x010B, 2), 4), ((0x0002, 2), 4), ((0x0001, 2), 3):
         yield f'word 0, {words[0]:04X} {words[1]:04X}', list(words), refused(number, 0)
     yield '01 and then 0103', words_of(HEADER) + [0x0103], refused(4, 12)
+
+
+def checked_file_3():
+    return words_of(HEADER) + [0x0602, 0, 953, 0, 0, 0]
 
 
 def checked_file_8():
@@ -43,6 +46,10 @@ def checked_file_8():
               profiles('05', [{2: 2, 3: 4}, {2: 3, 3: 0}, {2: 1, 3: 1}]), logger(8),
               Block('contents', (634, 701, 0xFFFB, 698)), Block('end', (END,)))
     return File(1, blocks)
+
+
+def checked_file_9():
+    return checked_file_8().put('0F', free(0x0199))
 
 
 def spectra_and_titles():

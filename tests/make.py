@@ -1,4 +1,5 @@
-"""Writes the pack of files and their verdicts (crates/verdicts/stdin, stdout) and the table of pairs (tests/PAIRS.md).
+"""Writes what the gate's programs read and what they must print (crates/PROGRAM/stdin, stdout), and the table of pairs
+(tests/PAIRS.md).
 
 Run it from the repository's root: python3 tests/make.py
 """
@@ -8,14 +9,14 @@ import sys
 from collections import Counter
 from pathlib import Path
 
-sys.dont_write_bytecode = True  # before the modules beside this one: a run writes its three files and no other
+sys.dont_write_bytecode = True  # before the modules beside this one: a run writes its own files and no other
 
-from cases import good_cases, hard_cases
-from pairs import pairs
+from cases import checked_file_3, checked_file_8, checked_file_9, good_cases, hard_cases
+from pairs import data_of, pairs
 from two_faults import two_faults
 
 TESTS = Path(__file__).resolve().parent
-CRATE = TESTS.parent / 'crates' / 'verdicts'
+CRATES = TESTS.parent / 'crates'
 NUMBERS = range(1, 10)
 
 
@@ -40,17 +41,49 @@ def vectors():
         yield check.stem, check.with_suffix('.svn').read_bytes(), check.read_text().rstrip('\n')
 
 
-def write_pack(files):
-    """One byte name length, three bytes file length, low byte first, the name, the file; and a line for each file."""
+def write_run(crate, stdin, stdout):
+    (CRATES / crate / 'stdin').write_bytes(stdin)
+    (CRATES / crate / 'stdout').write_bytes(stdout)
+
+
+def pack(*items):
+    """Each item as three bytes of length, low byte first, and its bytes."""
+    return b''.join(len(item).to_bytes(3, 'little') + item for item in items)
+
+
+def write_verdicts(files):
     names = Counter(name for name, _, _ in files)
     assert max(names.values()) == 1, names.most_common(3)
-    pack, lines = bytearray(), []
-    for name, data, line in files:
-        pack += bytes([len(name)]) + len(data).to_bytes(3, 'little') + name.encode('ascii') + data
-        lines.append(f'{name}: {line}\n')
-    CRATE.mkdir(parents=True, exist_ok=True)
-    (CRATE / 'stdin').write_bytes(pack)
-    (CRATE / 'stdout').write_bytes(''.join(lines).encode('ascii'))
+    write_run('verdicts', b''.join(pack(name.encode('ascii'), data) for name, data, _ in files),
+              ''.join(f'{name}: {line}\n' for name, _, line in files).encode('ascii'))
+
+
+def write_vectors():
+    """The title and the slim copy of each vector, or the line of its refusal, as its own files have them."""
+    stdin, stdout = bytearray(), bytearray()
+    for name, data, line in vectors():
+        files = TESTS / 'vectors' / name
+        label, title = (files.with_suffix(end).read_bytes() for end in ('.label', '.title'))
+        slim = f'{line}\n'.encode('ascii') if line.startswith('refused') else files.with_suffix('.slim').read_bytes()
+        stdin += pack(name.encode('ascii'), label, data)
+        stdout += name.encode('ascii') + b'\ntitle ' + title + b'\nslim ' + slim + b'\n'
+    write_run('vectors', stdin, stdout)
+
+
+def write_checked_files():
+    """Document 01's files 3, 8 and 9. File 9 has a slim copy that is file 8."""
+    file3, file8, file9 = (data_of(words) for words in (checked_file_3(), checked_file_8().words(), checked_file_9().words()))
+    write_run('slim', file9, file8)
+    write_run('slim_refused', file3, b'refused 5 at 14\n')
+    write_run('title', file8, b'Hall')
+    write_run('title_label', file3, b'Order 17, north end')
+    write_run('slim_rooms', file9, b''.join(room_answer(file8, room) for room in range(161)))
+
+
+def room_answer(copy, room):
+    if room < len(copy):
+        return b'refused 11 at 0\n' + b'\xee' * 160 + b'\n'
+    return f'{len(copy)} bytes\n'.encode('ascii') + copy + b'\xee' * (160 - len(copy)) + b'\n'
 
 
 def table(head, rows):
@@ -84,7 +117,9 @@ def main():
     hard, good = listed('hard', hard_cases()), listed('good', good_cases())
     kinds = {'pairs': [row[2:] for row in ones], 'two faults': [row[2:] for row in twos],
              'hard cases': [row[1:] for row in hard], 'accepted': [row[1:] for row in good], 'vectors': list(vectors())}
-    write_pack([file for files in kinds.values() for file in files])
+    write_verdicts([file for files in kinds.values() for file in files])
+    write_vectors()
+    write_checked_files()
     write_table(ones, twos, hard, good, kinds)
 
 

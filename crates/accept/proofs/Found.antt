@@ -5,18 +5,17 @@ use mathlib.Core.List.{List, [], _∷_}
 use mathlib.Core.Path.{_≡_, refl, sym, ap, subst, subst⁻¹, _∙_}
 use Prim.Native.Nat.{ℕ, zero, suc, _+_, _≤_}
 use native.Mathlib.Omega.{arith}
-use lib.Dec.{eqb, ltb}
+use lib.Dec.{eqb}
 use lib.ListN.{length, getD, take, drop, length-drop}
 use lib.Seq.{length-take-le}
-use borrow.Author.Tests.{eqb-true, ltb-false}
+use borrow.Author.Tests.{eqb-true}
 use Rattle.words.specs.Words.{low, wordsOf}
 use Rattle.blocks.specs.declared.Cursor.{Cursor}
 use Rattle.blocks.specs.declared.Stop.{Stop}
-use Rattle.blocks.specs.declared.Stop.the-variants.{Refused}
 use Rattle.blocks.specs.declared.Step.{Step}
 use Rattle.blocks.specs.declared.Step.the-variants.{Block, Over}
-use Rattle.blocks.specs.Walk.{cut, frontOf, rawOf, stepAt, Walk, over, block, walk, Part, partsOf}
-use Rattle.blocks.proofs.Steps.{walkFrom, walk-start, walk-over, walk-block, step-block}
+use Rattle.blocks.specs.Walk.{cut, frontOf, rawOf, stepAt, Walk, block, Part, partsOf}
+use Rattle.blocks.proofs.Steps.{walkFrom, walk-start, walk-over, walk-block}
 use Rattle.rules.specs.declared.Tested.the-variants.{Good}
 use Rattle.rules.specs.Block.{kept}
 use Rattle.rules.specs.Slim.{Slim, wordIn}
@@ -28,12 +27,11 @@ use Rattle.tables.specs.Setup.{rowFor, slimOf}
 use Rattle.tables.specs.Order.{keyOf}
 use Rattle.accept.specs.declared.judge.Starts.{Starts}
 use Rattle.accept.specs.declared.judge.State.{State}
-use Rattle.accept.specs.declared.judge.Judged.{Judged}
-use Rattle.accept.specs.declared.judge.Judged.the-variants.{Passed, Denied}
-use Rattle.accept.specs.Judge.{absent, noStarts, placeOf, noted, firstState, skipped, entered, enteredBy, seenIn, closed, judge, misfit, surveyed}
+use Rattle.accept.specs.declared.judge.Judged.the-variants.{Passed}
+use Rattle.accept.specs.Judge.{absent, noStarts, placeOf, noted, firstState, skipped, entered, enteredBy, judge, misfit, surveyed}
 use Rattle.accept.specs.Slims.{slimPart, slims, slimsIn, noSlim, slimFrom, slimAt, places, startOf, blockAt, rawAt}
-use Rattle.accept.proofs.Turns.{judge-pass, judge-deny}
-use Rattle.accept.proofs.Seen.{no-denied, Through, unlisted, listed, seen-through, closed-passed}
+use Rattle.accept.proofs.Onward.{no-fuel, passes}
+use Rattle.accept.proofs.Seen.{no-denied, Through, unlisted, listed, closed-passed}
 
 -- a block with its raw words, where it starts
 pub record There (ws : List ℕ) (place start : ℕ) (x : Slim) : Type 0 where
@@ -91,28 +89,7 @@ step-there ws place start len known f fits p l g =
       slim = rw (block-at ws start len f) (ap (λ (k : ℕ). slimOf b (take (rawOf b) (drop (start + k) ws))) (sym n));
     }
 
-refused : (s s′ : State) (num p : ℕ) → judge s (over (Refused num p)) ≡ Passed s′ → ⊥
-unfolding judge closed
-refused s s′ num p e = no-denied e
-
 module _ (ws : List ℕ) (place : ℕ) where
-  no-fuel : (s s′ : State) (c : Cursor) → judge s (walkFrom zero ws c) ≡ Passed s′ → ⊥
-  unfolding walkFrom walk
-  no-fuel s s′ c e = go (ltb (length ws) (c .at)) e
-    where
-      go : (t : Bool) → judge s (cond t (over (Refused 2 (c .last))) (over (Refused 2 (c .at)))) ≡ Passed s′ → ⊥
-      go true f = refused s s′ 2 (c .last) f
-      go false f = refused s s′ 2 (c .at) f
-
-  -- a cursor from which an accepted file goes on is no further than its end
-  within : (m : ℕ) (s s′ : State) (c : Cursor) → judge s (walkFrom m ws c) ≡ Passed s′ → c .at ≤ length ws
-  unfolding walkFrom
-  within m s s′ c e = go (ltb (length ws) (c .at)) refl e
-    where
-      go : (t : Bool) → ltb (length ws) (c .at) ≡ t → judge s (cond t (over (Refused 2 (c .last))) (walk m (c .at) (drop (c .at) ws))) ≡ Passed s′ → c .at ≤ length ws
-      go true p f = absurd (refused s s′ 2 (c .last) f)
-      go false p f = ltb-false (length ws) (c .at) p
-
   -- one block more
   slims-pass : (p : Part) (ps : List Part) (x : Slim) → rowOf (low (getD (p .words) 0 0)) .listed ≡ false → slimFrom place x (slims (p ∷ ps)) ≡ slimFrom place x (slims ps)
   unfolding slims slimPart
@@ -167,26 +144,14 @@ module _ (ws : List ℕ) (place : ℕ) where
         → Found ws place (startOf place (s .starts)) x → judge s (walkFrom (suc m) ws c) ≡ Passed s′
         → Found ws place (startOf place (s′ .starts)) (slimFrom place x (slims (partsOf (walkFrom (suc m) ws c))))
     unfolding partsOf
-    found-block m later c s s′ x id nn start len next q h e = subst⁻¹ Says walked-on (by-seen (seenIn s start (take len (drop start ws))) refl)
-      where
-        Says : Walk → Type 0
-        Says w = Found ws place (startOf place (s′ .starts)) (slimFrom place x (slims (partsOf w)))
-
-        walked-on : walkFrom (suc m) ws c ≡ block start (take len (drop start ws)) (take (rawOf (take len (drop start ws))) (drop (start + len) ws)) (walkFrom m ws next)
-        walked-on = walk-block m ws c id nn start len next q
-
-        by-seen : (j : Judged) → seenIn s start (take len (drop start ws)) ≡ j
-            → Says (block start (take len (drop start ws)) (take (rawOf (take len (drop start ws))) (drop (start + len) ws)) (walkFrom m ws next))
-        by-seen (Denied num p) r = absurd (no-denied (sym (judge-deny s start (take len (drop start ws)) _ _ num p r) ∙ sym (ap (judge s) walked-on) ∙ e))
-        by-seen (Passed s₁) r =
-            let on = sym (judge-pass s start (take len (drop start ws)) _ _ s₁ r) ∙ sym (ap (judge s) walked-on) ∙ e in
-            let step = step-block ws c id nn start len next q in
-            let fits : start + (len + rawOf (take len (drop start ws))) ≤ length ws = omega (arith, step .on, within m s₁ s′ next on) in
-            let more = found-next s s₁ start len x (step .front) fits (seen-through s start (take len (drop start ws)) s₁ r) h (partsOf (walkFrom m ws next)) in
-            rw (more .1 .1) (later next s₁ s′ (more .0) (more .1 .0) on)
+    found-block m later c s s′ x id nn start len next q h e =
+        let p = passes ws m c s s′ id nn start len next q e in
+        let more = found-next s (p .state) start len x (p .front) (p .fits) (p .through) h (partsOf (walkFrom m ws next)) in
+        subst⁻¹ (λ (w : Walk). Found ws place (startOf place (s′ .starts)) (slimFrom place x (slims (partsOf w)))) (walk-block m ws c id nn start len next q)
+        (rw (more .1 .1) (later next (p .state) s′ (more .0) (more .1 .0) (p .goes)))
 
     found-judged : (m : ℕ) → Later m
-    found-judged zero c s s′ x h e = absurd (no-fuel s s′ c e)
+    found-judged zero c s s′ x h e = absurd (no-fuel ws s s′ c e)
     found-judged (suc m) c s s′ x h e = go (stepAt ws c) refl (found-judged m)
       where
         go : (y : Step) → stepAt ws c ≡ y → Later m → Found ws place (startOf place (s′ .starts)) (slimFrom place x (slims (partsOf (walkFrom (suc m) ws c))))

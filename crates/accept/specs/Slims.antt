@@ -62,6 +62,14 @@ startOf place s =
 
 -- ---- what stands in the file
 
+-- the block of len words that starts at word `start`, and the raw words behind it
+unfoldable pub partAt : List ℕ → ℕ → ℕ → Part
+partAt ws start len =
+    record {
+      words = take len (drop start ws);
+      raw = take (rawOf (take len (drop start ws))) (drop (start + len) ws);
+    }
+
 -- the block that starts at word `at`; no words where none starts there
 unfoldable pub blockAt : List ℕ → ℕ → List ℕ
 blockAt ws at = elim (frontOf (drop at ws)) [ broken num ↦ [] | ended ↦ [] | cut k ↦ take k (drop at ws) ]

@@ -35,7 +35,7 @@ pub enum Step {
 }
 
 // How many raw words follow a block: those that a logger header counts in bytes.
-fn raw_words(block: &[u8]) -> usize
+pub fn raw_words(block: &[u8]) -> usize
     ensures { λ r. ⌜ r ≡ rawOf (wordsOf (now (block .entry))) ⌝ }
 {
     if word(block, 0) % 256 == 0x0F {

@@ -1,9 +1,9 @@
 -- What a writer does: it puts a text at the front of what it is lent, and leaves the rest as it was. Assumes nothing.
 use mathlib.Core.Bool.{cond}
 use mathlib.Core.Path.{_≡_}
-use mathlib.Core.List.{List, _++_}
+use mathlib.Core.List.{List, [], _∷_, _++_}
 use Prim.Native.Nat.{ℕ, _≤_}
-use lib.Dec.{ltb}
+use lib.Dec.{eqb, ltb}
 use lib.ListN.{length, drop}
 
 -- `text` at the front of `before`, and `before` from there on
@@ -19,3 +19,8 @@ pub record Wrote (text : List ℕ) (most : ℕ) (before after : List ℕ) (count
 -- "Text bytes outside 20 to 7E print as `?`" (document 01, Words and numbers); 63 is `?`
 abbrev pub shown : ℕ → ℕ
 shown b = cond (ltb b 0x20) 63 (cond (ltb 0x7E b) 63 b)
+
+-- a text up to its first null: the bytes before it, or all of them where none is null
+unfoldable pub beforeNull : List ℕ → List ℕ
+beforeNull [] = []
+beforeNull (b ∷ bs) = cond (eqb b 0) [] (b ∷ beforeNull bs)

@@ -1,24 +1,15 @@
-// Prints the answer of Check to each file of the pack on standard input. A file stands there as one byte N, three bytes L with
-// the low byte first, N bytes of name and L bytes of file.
-use libc::STDIN_FILENO;
+// Prints the answer of Check to each file of the pack on standard input, whose items are a name and a file in turn.
 use libc::STDOUT_FILENO;
+use packs::read_item;
 use replies::put_verdict;
 use text::put::put_bytes;
-ghost use mathlib.Core.Path.{_≡_};
 ghost use mathlib.Core.List.{_++_};
-ghost use Prim.Native.Nat.{_≤_, _<_};
+ghost use Prim.Native.Nat.{_≤_};
 ghost use lib.ListN.{length};
 ghost use Rattle.text.specs.Ascii.{ascii};
 ghost use Rattle.text.specs.Text.{Wrote};
 ghost use Rattle.accept.specs.Check.{verdict};
 ghost use Rattle.replies.specs.Replies.{reply};
-
-// A byte as a number of bytes.
-fn wide(b: u8) -> usize
-    ensures { λ r. ⌜ (r ≡ b) × (r < 256) ⌝ }
-{
-    b as usize
-}
 
 // What stands behind a file's name.
 fn put_behind(out: &mut [u8], file: &[u8]) -> usize
@@ -35,22 +26,13 @@ fn print_line(name: &[u8], file: &[u8]) -> bool {
     io::write_all(STDOUT_FILENO, name) && io::write_all(STDOUT_FILENO, &line[0..n])
 }
 
-// Prints the line of the pack's next file, and answers whether to go on: not at the pack's end, nor past a file that is too
-// long for the row.
-fn print_next(name: &mut [u8], file: &mut [u8]) -> bool
-    requires { ⌜ 255 ≤ length (now name) ⌝ }
-{
-    let mut head = [0u8; 4];
-    if io::read_full(STDIN_FILENO, &mut head) < 4 {
+// Prints the line of the pack's next file, and answers whether to go on: not at the pack's end.
+fn print_next(name: &mut [u8], file: &mut [u8]) -> bool {
+    let a = read_item(name);
+    if a == 0 {
         return false;
     }
-    let n = wide(head[0]);
-    let size = wide(head[1]) + 256 * wide(head[2]) + 65536 * wide(head[3]);
-    if file.len() < size {
-        return false;
-    }
-    let a = io::read_full(STDIN_FILENO, &mut name[0..n]);
-    let b = io::read_full(STDIN_FILENO, &mut file[0..size]);
+    let b = read_item(file);
     print_line(&name[0..a], &file[0..b])
 }
 

@@ -1,0 +1,142 @@
+-- An accepted file, from a cursor on: over a block it goes on, and what it holds is that block's slim form and what is left
+-- behind it. For the calls that go over a file's blocks once more. Assumes nothing.
+use mathlib.Core.Bool.{Bool, true, false, cond}
+use mathlib.Core.List.{List, [], _++_}
+use mathlib.Core.Path.{_≡_, refl, sym, ap, _∙_}
+use Prim.Native.Nat.{ℕ, zero, suc, _+_, _≤_}
+use native.Mathlib.Omega.{arith}
+use lib.Dec.{ltb}
+use lib.ListN.{length, take, drop}
+use borrow.Author.Tests.{ltb-false}
+use Rattle.words.specs.Words.{wordsOf}
+use Rattle.words.proofs.Choice.{cond-second}
+use Rattle.blocks.specs.declared.Cursor.{Cursor}
+use Rattle.blocks.specs.declared.Stop.{Stop}
+use Rattle.blocks.specs.declared.Stop.the-variants.{Refused}
+use Rattle.blocks.specs.declared.Step.the-variants.{Block, Over}
+use Rattle.blocks.specs.Walk.{cut, frontOf, rawOf, stepAt, Walk, over, block, walk, partsOf}
+use Rattle.blocks.proofs.Steps.{walkFrom, walk-start, walk-over, walk-block, step-block}
+use Rattle.rules.specs.Slim.{Slim}
+use Rattle.accept.specs.declared.judge.State.{State}
+use Rattle.accept.specs.declared.judge.Judged.{Judged}
+use Rattle.accept.specs.declared.judge.Judged.the-variants.{Passed, Denied}
+use Rattle.accept.specs.Judge.{firstState, seenIn, closed, judge, misfit, surveyed}
+use Rattle.accept.specs.Slims.{slimPart, slims, slimsIn, partAt}
+use Rattle.accept.proofs.Turns.{judge-pass, judge-deny}
+use Rattle.accept.proofs.Seen.{no-denied, Through, seen-through}
+
+pub refused : (s s′ : State) (num p : ℕ) → judge s (over (Refused num p)) ≡ Passed s′ → ⊥
+unfolding judge closed
+refused s s′ num p e = no-denied e
+
+pub no-fuel : (ws : List ℕ) (s s′ : State) (c : Cursor) → judge s (walkFrom zero ws c) ≡ Passed s′ → ⊥
+unfolding walkFrom walk
+no-fuel ws s s′ c e = go (ltb (length ws) (c .at)) e
+  where
+    go : (t : Bool) → judge s (cond t (over (Refused 2 (c .last))) (over (Refused 2 (c .at)))) ≡ Passed s′ → ⊥
+    go true f = refused s s′ 2 (c .last) f
+    go false f = refused s s′ 2 (c .at) f
+
+-- a cursor from which an accepted file goes on is no further than its end
+within : (ws : List ℕ) (m : ℕ) (s s′ : State) (c : Cursor) → judge s (walkFrom m ws c) ≡ Passed s′ → c .at ≤ length ws
+unfolding walkFrom
+within ws m s s′ c e = go (ltb (length ws) (c .at)) refl e
+  where
+    go : (t : Bool) → ltb (length ws) (c .at) ≡ t → judge s (cond t (over (Refused 2 (c .last))) (walk m (c .at) (drop (c .at) ws))) ≡ Passed s′ → c .at ≤ length ws
+    go true p f = absurd (refused s s′ 2 (c .last) f)
+    go false p f = ltb-false (length ws) (c .at) p
+
+-- a block that goes through: where it ends, and the state behind it
+pub record Passes (ws : List ℕ) (m : ℕ) (s s′ : State) (start len : ℕ) (next : Cursor) : Type 0 where
+  pub front : frontOf (drop start ws) ≡ cut len
+  pub fits : start + (len + rawOf (take len (drop start ws))) ≤ length ws
+  pub state : State
+  pub through : Through s start (take len (drop start ws)) state
+  pub goes : judge state (walkFrom m ws next) ≡ Passed s′
+
+pub passes : (ws : List ℕ) (m : ℕ) (c : Cursor) (s s′ : State) (id nn start len : ℕ) (next : Cursor) → stepAt ws c ≡ Block id nn start len next
+    → judge s (walkFrom (suc m) ws c) ≡ Passed s′ → Passes ws m s s′ start len next
+passes ws m c s s′ id nn start len next q e =
+    go (seenIn s start (take len (drop start ws))) refl (sym (ap (judge s) (walk-block m ws c id nn start len next q)) ∙ e)
+  where
+    go : (j : Judged) → seenIn s start (take len (drop start ws)) ≡ j
+        → judge s (block start (take len (drop start ws)) (take (rawOf (take len (drop start ws))) (drop (start + len) ws)) (walkFrom m ws next)) ≡ Passed s′
+        → Passes ws m s s′ start len next
+    go (Denied num p) r f = absurd (no-denied (sym (judge-deny s start (take len (drop start ws)) _ _ num p r) ∙ f))
+    go (Passed s₁) r f =
+        let on = sym (judge-pass s start (take len (drop start ws)) _ _ s₁ r) ∙ f in
+        let step = step-block ws c id nn start len next q in
+        record {
+          front = step .front;
+          fits = omega (arith, step .on, within ws m s₁ s′ next on);
+          state = s₁;
+          through = seen-through s start (take len (drop start ws)) s₁ r;
+          goes = on;
+        }
+
+-- ---- the slim blocks that are left
+
+module _ (m : ℕ) (ws : List ℕ) (c : Cursor) where
+  pub slims-over : (stop : Stop) → stepAt ws c ≡ Over stop → slims (partsOf (walkFrom (suc m) ws c)) ≡ []
+  unfolding slims partsOf
+  slims-over stop q = ap (λ (w : Walk). slims (partsOf w)) (walk-over m ws c stop q)
+
+  pub slims-block : (id nn start len : ℕ) (next : Cursor) → stepAt ws c ≡ Block id nn start len next
+      → slims (partsOf (walkFrom (suc m) ws c)) ≡ slimPart (partAt ws start len) ++ slims (partsOf (walkFrom m ws next))
+  unfolding slims partsOf partAt
+  slims-block id nn start len next q = ap (λ (w : Walk). slims (partsOf w)) (walk-block m ws c id nn start len next q)
+
+pub record Onward (ws : List ℕ) (c : Cursor) (xs : List Slim) : Type 0 where
+  pub fuel : ℕ
+  pub state : State
+  pub last : State
+  pub goes : judge state (walkFrom fuel ws c) ≡ Passed last
+  pub left : slims (partsOf (walkFrom fuel ws c)) ≡ xs
+
+pub onward : (file : List ℕ) (s : State) → surveyed file ≡ Passed s → Onward (wordsOf file) (record { at = 0; last = 0 }) (slimsIn file)
+unfolding surveyed slimsIn
+onward file s e =
+    let ws = wordsOf file in
+    record {
+      fuel = suc (length ws);
+      state = firstState;
+      last = s;
+      goes = ap (judge firstState) (walk-start ws) ∙ cond-second (misfit file) e no-denied .1;
+      left = ap (λ (w : Walk). slims (partsOf w)) (walk-start ws);
+    }
+
+-- at the end nothing is left
+pub onward-over : {ws : List ℕ} {c : Cursor} {xs : List Slim} → Onward ws c xs → (stop : Stop) → stepAt ws c ≡ Over stop → xs ≡ []
+onward-over {ws} {c} {xs} o stop q = go (o .fuel) (o .goes) (o .left)
+  where
+    go : (m : ℕ) → judge (o .state) (walkFrom m ws c) ≡ Passed (o .last) → slims (partsOf (walkFrom m ws c)) ≡ xs → xs ≡ []
+    go zero e l = absurd (no-fuel ws (o .state) (o .last) c e)
+    go (suc m) e l = sym l ∙ slims-over m ws c stop q
+
+-- a block, and what is left behind it
+pub record Over-block (ws : List ℕ) (xs : List Slim) (start len : ℕ) (next : Cursor) : Type 0 where
+  pub fuel : ℕ
+  pub before : State
+  pub last : State
+  pub passes : Passes ws fuel before last start len next
+  pub more : List Slim
+  pub split : xs ≡ slimPart (partAt ws start len) ++ more
+  pub on : Onward ws next more
+
+pub onward-block : {ws : List ℕ} {c : Cursor} {xs : List Slim} → Onward ws c xs → (id nn start len : ℕ) (next : Cursor) → stepAt ws c ≡ Block id nn start len next
+    → Over-block ws xs start len next
+onward-block {ws} {c} {xs} o id nn start len next q = go (o .fuel) (o .goes) (o .left)
+  where
+    go : (m : ℕ) → judge (o .state) (walkFrom m ws c) ≡ Passed (o .last) → slims (partsOf (walkFrom m ws c)) ≡ xs → Over-block ws xs start len next
+    go zero e l = absurd (no-fuel ws (o .state) (o .last) c e)
+    go (suc m) e l =
+        let p = passes ws m c (o .state) (o .last) id nn start len next q e in
+        record {
+          fuel = m;
+          before = o .state;
+          last = o .last;
+          passes = p;
+          more = slims (partsOf (walkFrom m ws next));
+          split = sym l ∙ slims-block m ws c id nn start len next q;
+          on = record { fuel = m; state = p .state; last = o .last; goes = p .goes; left = refl };
+        }

@@ -1,0 +1,6 @@
+// Prints the slim copy of the file on standard input, or the refusal of the file.
+use prints::slim_of_input;
+
+fn main() {
+    slim_of_input();
+}

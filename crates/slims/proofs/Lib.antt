@@ -1,0 +1,3 @@
+-- The laws of the slim copy. Assumes nothing.
+pub mod CopyLaws
+pub mod ReplyLaws

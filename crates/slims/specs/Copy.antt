@@ -1,0 +1,77 @@
+-- The slim copy of a file, and what Slim answers (document 01, Slim copy and Refusal numbers). Assumes nothing.
+use mathlib.Core.Bool.{true, cond}
+use mathlib.Core.List.{List, [], _∷_, _++_, flatMap}
+use mathlib.Core.Path.{_≡_}
+use Prim.Native.Nat.{ℕ, _+_, _≤_}
+use lib.Dec.{ltb}
+use lib.ListN.{length, getD, take, drop}
+use Rattle.words.specs.Words.{low, bytesOf}
+use Rattle.text.specs.Text.{over}
+use Rattle.blocks.specs.Walk.{Part, endMarker, rawOf}
+use Rattle.rules.specs.Slim.{Slim, wordsIn}
+use Rattle.tables.specs.Table.{rowOf}
+use Rattle.cuts.specs.Cut.{Cuts}
+use Rattle.accept.specs.declared.judge.State.{State}
+use Rattle.accept.specs.declared.judge.Judged.{Judged}
+use Rattle.accept.specs.declared.judge.Judged.the-variants.{Passed, Denied}
+use Rattle.accept.specs.Judge.{surveyed}
+use Rattle.accept.specs.Slims.{slimPart, slimsIn}
+use Rattle.slims.specs.declared.Reply.{Reply}
+use Rattle.slims.specs.declared.Reply.the-variants.{Written, Refused}
+
+-- "The listed blocks and raw contents in order .. ; the end marker"
+unfoldable pub slimWords : List Slim → List ℕ
+slimWords xs = flatMap wordsIn xs ++ (endMarker ∷ [])
+
+-- the slim copy of a file, as bytes
+unfoldable pub slimCopy : List ℕ → List ℕ
+slimCopy file = bytesOf (slimWords (slimsIn file))
+
+-- ---- the call
+
+-- "11 .. output .. under the slim length": an accepted file, and an output of so many bytes
+unfoldable pub roomFor : List ℕ → ℕ → Reply
+roomFor copy room = cond (ltb room (length copy)) (Refused 11 0) (Written (length copy))
+
+-- "The order is 1; then file order; .. then 11"
+unfoldable pub replied : List ℕ → ℕ → Judged → Reply
+replied copy room (Passed s) = roomFor copy room
+replied copy room (Denied num at) = Refused num at
+
+-- the answer of Slim to a file and an output of so many bytes
+unfoldable pub slimReply : List ℕ → ℕ → Reply
+slimReply file room = replied (slimCopy file) room (surveyed file)
+
+-- the output after an answer: "Refusals .. write no byte; a success writes only the bytes it counts"
+unfoldable pub outputBy : List ℕ → List ℕ → Reply → List ℕ
+outputBy copy before (Written n) = over copy before
+outputBy copy before (Refused num at) = before
+
+-- document 01's numbers and values for each answer: a refusal's number and position; for a success 0, which is no refusal's
+-- number, at 0, and the byte length
+unfoldable pub values : Reply → List ℕ
+values (Written n) = 0 ∷ (0 ∷ (n ∷ []))
+values (Refused num at) = num ∷ (at ∷ [])
+
+-- the promise of Slim: its answer has the number and the values of the reply, and the output is as the reply leaves it
+pub record Slimmed (file before after : List ℕ) (answer : Reply) : Type 0 where
+  pub answer-is : values answer ≡ values (slimReply file (length before))
+  pub output-is : after ≡ outputBy (slimCopy file) before (slimReply file (length before))
+
+-- ---- what the code asks
+
+-- an accepted file
+pub record Accepted (file : List ℕ) : Type 0 where
+  pub state : State
+  pub passed : surveyed file ≡ Passed state
+
+-- the words of a block and its raw contents in the slim copy; none of a block that is not listed
+unfoldable pub partWords : Part → List ℕ
+partWords p = flatMap wordsIn (slimPart p)
+
+-- a block within a file of 32,768 words at most, and good by its row where it is listed
+pub record Within (ws : List ℕ) (start len : ℕ) : Type 0 where
+  pub short : length ws ≤ 32768
+  pub fits : start + (len + rawOf (take len (drop start ws))) ≤ length ws
+  pub good : rowOf (low (getD (take len (drop start ws)) 0 0)) .listed ≡ true
+      → Cuts (rowOf (low (getD (take len (drop start ws)) 0 0))) (take len (drop start ws))

@@ -1,0 +1,130 @@
+// Slim: the slim copy of a file, written into a lent output.
+use accept::judge::Judged;
+use accept::judge::survey;
+use blocks::Cursor;
+use blocks::Step;
+use blocks::raw_words;
+use cuts::put_slim;
+use cuts::put_word;
+use cuts::put_words;
+use cuts::slim_words;
+use rules::Row;
+use tables::table::row_of;
+use words::front;
+use words::rest;
+use words::word;
+ghost use mathlib.Core.Path.{_≡_};
+ghost use lib.ListN.{length, getD};
+ghost use Rattle.words.specs.Words.{low, wordsOf};
+ghost use Rattle.tables.specs.Table.{rowOf};
+ghost use Rattle.cuts.specs.Cut.{WroteWords, HasRoom};
+ghost use Rattle.accept.specs.Slims.{slimsIn, partAt};
+ghost use Rattle.slims.specs.Copy.{slimWords, slimCopy, roomFor, outputBy, Slimmed, Accepted, partWords, Within};
+
+// The answer of Slim: how many bytes were written, or a refusal.
+pub enum Reply {
+    Written(usize),
+    Refused { num: u8, at: usize },
+}
+
+// The row of a block by its own id.
+fn row_by(b: &[u8]) -> Row
+    ensures { λ r. ⌜ r ≡ rowOf (low (getD (wordsOf (now (b .entry))) 0 0)) ⌝ }
+{
+    row_of(word(b, 0) % 256)
+}
+
+// How many words of the slim copy are the block of `len` words at word `start` and its raw contents.
+fn part_words(file: &[u8], start: usize, len: usize) -> usize
+    requires { ⌜ Within (wordsOf (now file)) start len ⌝ }
+    ensures { λ r. ⌜ r ≡ length (partWords (partAt (wordsOf (now (file .entry))) start len)) ⌝ }
+{
+    let b = front(rest(file, start), len);
+    let row = row_by(b);
+    if !row.listed {
+        return 0;
+    }
+    slim_words(b, row) + raw_words(b)
+}
+
+// Writes these words.
+fn put_part(out: &mut [u8], file: &[u8], start: usize, len: usize) -> usize
+    requires { ⌜ Within (wordsOf (now file)) start len × HasRoom (partWords (partAt (wordsOf (now file)) start len)) (now out) ⌝ }
+    ensures { λ r. ⌜ WroteWords (partWords (partAt (wordsOf (now (file .entry))) start len)) (now (out .entry)) (now (out .exit)) r ⌝ }
+{
+    let b = front(rest(file, start), len);
+    let row = row_by(b);
+    if !row.listed {
+        return 0;
+    }
+    let a = put_slim(out, b, row);
+    a + put_words(&mut out[a..], front(rest(file, start + len), raw_words(b)))
+}
+
+// How many words the slim copy has.
+fn copy_words(file: &[u8]) -> usize
+    requires { ⌜ Accepted (now file) ⌝ }
+    ensures { λ r. ⌜ r ≡ length (slimWords (slimsIn (now (file .entry)))) ⌝ }
+{
+    let mut cursor = Cursor::start();
+    let mut n = 0;
+    loop {
+        let step = cursor.step(file);
+        let Step::Block {
+            start,
+            length,
+            next,
+            ..
+        } = step
+        else {
+            return n + 1;
+        };
+        n += part_words(file, start, length);
+        cursor = next;
+    }
+}
+
+// Writes the slim copy.
+fn put_copy(out: &mut [u8], file: &[u8]) -> usize
+    requires { ⌜ Accepted (now file) × HasRoom (slimWords (slimsIn (now file))) (now out) ⌝ }
+    ensures { λ r. ⌜ WroteWords (slimWords (slimsIn (now (file .entry)))) (now (out .entry)) (now (out .exit)) r ⌝ }
+{
+    let mut cursor = Cursor::start();
+    let mut n = 0;
+    loop {
+        let step = cursor.step(file);
+        let Step::Block {
+            start,
+            length,
+            next,
+            ..
+        } = step
+        else {
+            return n + put_word(&mut out[n..], 0xFFFF);
+        };
+        n += put_part(&mut out[n..], file, start, length);
+        cursor = next;
+    }
+}
+
+// An accepted file's slim copy, where it fits.
+fn put_whole(file: &[u8], out: &mut [u8]) -> Reply
+    requires { ⌜ Accepted (now file) ⌝ }
+    ensures { λ r. ⌜ (r ≡ roomFor (slimCopy (now (file .entry))) (length (now (out .entry)))) × (now (out .exit) ≡ outputBy (slimCopy (now (file .entry))) (now (out .entry)) r) ⌝ }
+{
+    let bytes = 2 * copy_words(file);
+    if out.len() < bytes {
+        return Reply::Refused { num: 11, at: 0 };
+    }
+    Reply::Written(put_copy(out, file))
+}
+
+// Writes the slim copy of a file and answers its length, or refuses and writes nothing.
+pub fn slim(file: &[u8], out: &mut [u8]) -> Reply
+    ensures { λ r. ⌜ Slimmed (now (file .entry)) (now (out .entry)) (now (out .exit)) r ⌝ }
+{
+    match survey(file) {
+        Judged::Passed(_) => put_whole(file, out),
+        Judged::Denied { num, at } => Reply::Refused { num, at },
+    }
+}

@@ -1,0 +1,6 @@
+// Prints the title of the file on standard input, with the first argument as the label.
+use prints::title_of_input;
+
+fn main() {
+    title_of_input();
+}

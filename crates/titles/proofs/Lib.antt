@@ -1,0 +1,2 @@
+-- The laws of titles. Assumes nothing.
+pub mod TitleLaws
