@@ -2,7 +2,7 @@
 use mathlib.Core.Bool.{Bool, true, false, cond, _||_, false≢true}
 use mathlib.Core.Path.{_≡_, refl, sym, ap, _∙_}
 use mathlib.Core.List.{List, [], _∷_, _++_}
-use Prim.Native.Nat.{ℕ, suc, _+_, _-_, _/_, _%_, _≤_}
+use Prim.Native.Nat.{ℕ, suc, _+_, _-_, _*_, _/_, _%_, _≤_, _<_}
 use native.Mathlib.Nat.{le-refl}
 use native.Mathlib.Omega.{arith}
 use lib.Dec.{eqb}
@@ -52,21 +52,26 @@ text-short (w ∷ ws) = go (eqb (low w) 0) (eqb (high w) 0) (text-short ws)
     go false true h = omega arith
     go false false h = omega arith
 
--- ---- a text block whose text is t
+-- ---- a text block whose text is t, in so many words with its nulls
 
-pub record IsText (ws t : List ℕ) : Type 0 where
-  pub bytes : bytesOf (counted (length t / 2 + 2) ws ∷ []) ++ t ++ nulls (length t) ≡ bytesOf (cutText ws)
-  pub words : length (cutText ws) ≡ length t / 2 + 2
-  pub short : length t / 2 + 2 ≤ length ws
+pub record IsText (ws t : List ℕ) (words : ℕ) : Type 0 where
+  pub bytes : bytesOf (counted (words + 1) ws ∷ []) ++ t ++ take (2 * words - length t) (0 ∷ 0 ∷ []) ≡ bytesOf (cutText ws)
+  pub length-is : length (cutText ws) ≡ words + 1
+  pub short : words + 1 ≤ length ws
+  pub holds : length t < 2 * words
+  pub fills : 2 * words ≤ length t + 2
 
-pub is-text : (ws : List ℕ) {part t : List ℕ} → nulled (drop 1 ws) ≡ true → Holds (drop 1 ws) part → t ≡ beforeNull part → IsText ws t
+pub is-text : (ws : List ℕ) {part t : List ℕ} {words : ℕ} → nulled (drop 1 ws) ≡ true → Holds (drop 1 ws) part → t ≡ beforeNull part → words ≡ length t / 2 + 1 → IsText ws t words
 unfolding cutText bytesOf
-is-text ws {part} {t} h p e =
+is-text ws {part} {t} {words} h p e q =
     let f : t ≡ beforeNull (bytesOf (drop 1 ws)) = e ∙ ap beforeNull (p .bytes) in
     let n : length (textOf (drop 1 ws)) ≡ length t / 2 + 1 = rw f (text-length (drop 1 ws) h) in
-    let m : length t / 2 + 2 ≡ suc (length (textOf (drop 1 ws))) = omega arith in
+    let m : words + 1 ≡ suc (length (textOf (drop 1 ws))) = omega arith in
+    let fill : 2 * words - length t ≡ 2 - length t % 2 = omega arith in
     record {
-      bytes = rw (m, text-bytes (drop 1 ws) h, f);
-      words = sym m;
+      bytes = rw (m, fill, text-bytes (drop 1 ws) h, f);
+      length-is = sym m;
       short = omega (arith, text-short (drop 1 ws), length-drop 1 ws);
+      holds = omega arith;
+      fills = omega arith;
     }

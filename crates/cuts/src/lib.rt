@@ -10,7 +10,7 @@ use words::word;
 ghost use mathlib.Core.Bool.{true};
 ghost use mathlib.Core.List.{[], _∷_, flatten};
 ghost use mathlib.Core.Path.{_≡_};
-ghost use Prim.Native.Nat.{_<_, _≤_};
+ghost use Prim.Native.Nat.{_+_, _/_, _<_, _≤_};
 ghost use lib.ListN.{length, drop};
 ghost use Rattle.words.specs.Words.{wordsOf};
 ghost use Rattle.rules.specs.Block.{nulled};
@@ -51,16 +51,24 @@ fn put_cut(out: &mut [u8], b: &[u8], n: usize) -> usize
     a + put_words(&mut out[a..], rest(front(b, n), 1))
 }
 
+// How many words a text has with its nulls: one or two, to fill its last word.
+fn text_words(text: &[u8]) -> usize
+    ensures { λ r. ⌜ r ≡ length (now (text .entry)) / 2 + 1 ⌝ }
+{
+    (text.len() + 2) / 2
+}
+
 // A text block: its text, with one or two nulls to fill its word.
 fn put_text_block(out: &mut [u8], b: &[u8]) -> usize
     requires { ⌜ (nulled (drop 1 (wordsOf (now b))) ≡ true) × ((length (wordsOf (now b)) < 256) × HasRoom (cutText (wordsOf (now b))) (now out)) ⌝ }
     ensures { λ r. ⌜ WroteWords (cutText (wordsOf (now (b .entry)))) (now (out .entry)) (now (out .exit)) r ⌝ }
 {
     let text = before_null(rest(b, 1));
+    let words = text_words(text);
     let nulls = [0u8; 2];
-    let a = put_counted(out, b, text.len() / 2 + 2);
+    let a = put_counted(out, b, words + 1);
     let c = a + put_bytes(&mut out[a..], text);
-    c + put_bytes(&mut out[c..], &nulls[0..2 - text.len() % 2])
+    c + put_bytes(&mut out[c..], &nulls[0..2 * words - text.len()])
 }
 
 // What stands before the sub-blocks.
@@ -116,7 +124,7 @@ pub fn slim_words(b: &[u8], row: Row) -> usize
         return count(b);
     }
     if row.text {
-        return before_null(rest(b, 1)).len() / 2 + 2;
+        return text_words(before_null(rest(b, 1))) + 1;
     }
     row.least
 }

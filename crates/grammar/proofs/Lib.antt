@@ -1,5 +1,4 @@
--- Check accepts exactly the files of the grammar; closed files. Assumes nothing.
+-- Check accepts exactly the files of the grammar. Assumes nothing.
 pub mod Takes
 pub mod Sentence
 pub mod Exactly
-pub mod Closed

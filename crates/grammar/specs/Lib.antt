@@ -1,3 +1,2 @@
 -- What the statements of the crate cite. Assumes nothing.
 pub mod Grammar
-pub mod Cases

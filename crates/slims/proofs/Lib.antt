@@ -1,3 +1,5 @@
--- The laws of the slim copy. Assumes nothing.
+-- The laws of the slim copy and of Slim's answer. Assumes nothing.
+pub mod Cuttable
 pub mod CopyLaws
+pub mod Turns
 pub mod ReplyLaws

@@ -28,13 +28,18 @@ copy-no-longer file s e below = omega (arith, copy-length file, no-longer file s
 
 -- ---- the cases
 
-pub no-room : (copy : List ℕ) (room : ℕ) → room < length copy → Refused 11 0 ≡ roomFor copy room
+pub no-room : (copy : List ℕ) (room num at : ℕ) → room < length copy → num ≡ 11 → at ≡ 0 → Refused num at ≡ roomFor copy room
 unfolding roomFor
-no-room copy room h = rw (lt-ltb room (length copy) h)
+no-room copy room num at h n p = rw (lt-ltb room (length copy) h, n, p)
 
 pub has-room : (copy : List ℕ) (room n : ℕ) → length copy ≤ room → n ≡ length copy → Written n ≡ roomFor copy room
 unfolding roomFor
 has-room copy room n h e = rw (le-ltb room (length copy) h, e)
+
+-- a refusal leaves every byte as it was
+pub left-alone : (copy before : List ℕ) (num at : ℕ) → before ≡ outputBy copy before (Refused num at)
+unfolding outputBy
+left-alone copy before num at = refl
 
 module _ (file before after : List ℕ) where
   pub slimmed-passed : (s : State) → surveyed file ≡ Passed s → (r : Reply) → r ≡ roomFor (slimCopy file) (length before) → after ≡ outputBy (slimCopy file) before r → Slimmed file before after r
@@ -44,10 +49,10 @@ module _ (file before after : List ℕ) where
       record { answer-is = ap values (sym same); output-is = o ∙ ap (outputBy (slimCopy file) before) (sym same) }
 
   pub slimmed-denied : (num at : ℕ) → surveyed file ≡ Denied num at → after ≡ before → Slimmed file before after (Refused num at)
-  unfolding slimReply replied outputBy
+  unfolding slimReply replied
   slimmed-denied num at e o =
       let same : slimReply file (length before) ≡ Refused num at = ap (replied (slimCopy file) (length before)) e in
-      record { answer-is = ap values (sym same); output-is = o ∙ ap (outputBy (slimCopy file) before) (sym same) }
+      record { answer-is = ap values (sym same); output-is = o ∙ left-alone (slimCopy file) before num at ∙ ap (outputBy (slimCopy file) before) (sym same) }
 
 -- ---- one answer
 

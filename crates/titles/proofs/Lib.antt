@@ -1,2 +1,3 @@
--- The laws of titles. Assumes nothing.
+-- The laws of texts and of the title. Assumes nothing.
+pub mod Texts
 pub mod TitleLaws

@@ -1,107 +1,40 @@
 -- The title of an accepted file, as the code finds it in the file, is the text of its slim block 03. Assumes nothing.
-use mathlib.Core.Bool.{Bool, true, false, cond, _||_, false≢true}
-use mathlib.Core.List.{List, [], _∷_, _++_}
+use mathlib.Core.Bool.{Bool, true, false, cond}
+use mathlib.Core.List.{List}
 use mathlib.Core.Path.{_≡_, refl, sym, ap, _∙_}
-use Prim.Native.Nat.{ℕ, _+_, _*_, _%_, _≤_, _<_}
+use Prim.Native.Nat.{ℕ, _+_, _*_, _%_, _≤_}
 use native.Mathlib.Omega.{arith}
 use lib.Dec.{eqb, ltb}
-use lib.ListN.{length, getD, take, drop, length-take, length-drop, take-append-drop, drop-of-length-le}
-use lib.Seq.{drop-drop}
+use lib.ListN.{length, take, drop, length-take, length-drop}
 use denote.Ref.{RefT}
-use borrow.Author.Tests.{eqb-false}
-use Rattle.words.specs.Words.{low, high, wordsOf, bytesOf}
+use borrow.Author.Tests.{eqb-false, eq-eqb, ne-eqb}
+use Rattle.words.specs.Words.{wordsOf, bytesOf}
 use Rattle.words.proofs.Choice.{cond-second, or-neither}
 use Rattle.words.proofs.WordLaws.{Below, bytes-drop, bytes-of-words}
 use Rattle.text.specs.Text.{beforeNull}
-use Rattle.rules.specs.Block.{nulled, readable}
-use Rattle.rules.specs.Slim.{Slim, textOf, cutText, headBy, slimBy}
-use Rattle.rules.proofs.BlockLaws.{kept-says}
 use Rattle.tables.specs.Table.{rowOf}
-use Rattle.tables.specs.Setup.{slimOf}
-use Rattle.tables.proofs.TableLaws.{row-same}
 use Rattle.accept.specs.declared.judge.State.{State}
 use Rattle.accept.specs.declared.judge.Judged.{Judged}
 use Rattle.accept.specs.declared.judge.Judged.the-variants.{Passed, Denied}
 use Rattle.accept.specs.Judge.{misfit, surveyed}
-use Rattle.accept.specs.Slims.{slimsIn, places, startOf, blockAt}
+use Rattle.accept.specs.Slims.{slimsIn, places, startOf}
 use Rattle.accept.proofs.Seen.{no-denied}
-use Rattle.accept.proofs.Found.{There, Found, there, nowhere, isIn, found}
-use Rattle.accept.proofs.FoundWords.{place-id, accepted-few}
+use Rattle.accept.proofs.Found.{isIn, found}
+use Rattle.accept.proofs.FoundWords.{accepted-few}
+use Rattle.titles.proofs.Texts.{text-front, found-text}
 use Rattle.titles.specs.declared.TitleAt.the-variants.{Text, Label}
 use Rattle.titles.specs.Title.{titleText, textAt, titleIn, titleAt, seen, partOf, handed, titleOf}
 
--- ---- texts
-
--- a text and its slim form show the same
-pub text-kept : (ws : List ℕ) → beforeNull (bytesOf (textOf ws)) ≡ beforeNull (bytesOf ws)
-unfolding textOf bytesOf beforeNull
-text-kept [] = refl
-text-kept (w ∷ ws) = go (eqb (low w) 0) (eqb (high w) 0) refl refl (text-kept ws)
-  where
-    go : (x y : Bool) → eqb (low w) 0 ≡ x → eqb (high w) 0 ≡ y → beforeNull (bytesOf (textOf ws)) ≡ beforeNull (bytesOf ws)
-        → beforeNull (bytesOf (cond x (0 ∷ []) (cond y (w ∷ []) (w ∷ textOf ws)))) ≡ cond x [] (low w ∷ cond y [] (high w ∷ beforeNull (bytesOf ws)))
-    go true y p q ih = refl
-    go false true p q ih = rw (p, q)
-    go false false p q ih = rw (p, q, ih)
-
--- a text that has its null is the same with more words behind it
-pub text-within : (ws vs : List ℕ) → nulled ws ≡ true → beforeNull (bytesOf (ws ++ vs)) ≡ beforeNull (bytesOf ws)
-unfolding nulled bytesOf beforeNull
-text-within [] vs e = absurd (false≢true e)
-text-within (w ∷ ws) vs e = go (eqb (low w) 0) (eqb (high w) 0) e (text-within ws vs)
-  where
-    go : (x y : Bool) → (x || (y || nulled ws)) ≡ true → (nulled ws ≡ true → beforeNull (bytesOf (ws ++ vs)) ≡ beforeNull (bytesOf ws))
-        → cond x [] (low w ∷ cond y [] (high w ∷ beforeNull (bytesOf (ws ++ vs)))) ≡ cond x [] (low w ∷ cond y [] (high w ∷ beforeNull (bytesOf ws)))
-    go true y f ih = refl
-    go false true f ih = refl
-    go false false f ih = rw (ih f)
-
--- the same behind the first word of a block
-block-text : (b vs : List ℕ) → nulled (drop 1 b) ≡ true → beforeNull (bytesOf (drop 1 (b ++ vs))) ≡ beforeNull (bytesOf (drop 1 b))
-unfolding nulled
-block-text [] vs e = absurd (false≢true e)
-block-text (w ∷ b) vs e = text-within b vs e
-
--- a text is the front of the bytes that it stands in
-pub text-front : (bs : List ℕ) → take (length (beforeNull bs)) bs ≡ beforeNull bs
-unfolding beforeNull
-text-front [] = refl
-text-front (b ∷ bs) = go (eqb b 0) (text-front bs)
-  where
-    go : (t : Bool) → take (length (beforeNull bs)) bs ≡ beforeNull bs → take (length (cond t [] (b ∷ beforeNull bs))) (b ∷ bs) ≡ cond t [] (b ∷ beforeNull bs)
-    go true e = refl
-    go false e = ap (λ (l : List ℕ). b ∷ l) e
-
--- ---- the text of a block that was found
-
--- a block that was found is the front of the words from its start on
-block-there : {ws : List ℕ} {place start : ℕ} {x : Slim} → There ws place start x → (k : ℕ) → length (blockAt ws start) ≡ k → blockAt ws start ≡ take k (drop start ws)
-unfolding blockAt
-block-there t k q = rw (rw q at (t .front), blockAt)
-
--- the files that may be accepted have 32,768 words at most
-module _ {ws : List ℕ} (few : length ws ≤ 32768) {start : ℕ} {x : Slim} where
-  -- a text, read from word 1 of its block on in the file, and in the block's slim form
-  pub found-text : (id : ℕ) → id < 256 → (id ≡ 0x0B → ⊥) → (id ≡ 0x0E → ⊥) → rowOf id .exact ≡ false → rowOf id .text ≡ true → Found ws id start x
-      → beforeNull (bytesOf (drop (start + 1) ws)) ≡ beforeNull (bytesOf (drop 1 (x .head)))
-  unfolding readable slimOf slimBy headBy cutText
-  found-text id small b e ex tx (there t) =
-      let block = blockAt ws start in
-      let w = getD block 0 0 in
-      let same : low w ≡ id = place-id w id small b e (t .place-is) in
-      let text = row-same (λ r. r .text) (λ n. refl) (λ rs n. refl) (t .setup) w ∙ ap (λ (i : ℕ). rowOf i .text) same ∙ tx in
-      let null : nulled (drop 1 block) ≡ true = rw text at (kept-says _ block (t .good) .null) in
-      let head : x .head ≡ headBy (rowOf id) block = ap (λ (y : Slim). y .head) (t .slim) ∙ ap (λ (i : ℕ). headBy (rowOf i) block) same in
-      let front : block ++ drop (length block) (drop start ws) ≡ drop start ws =
-      ap (λ (l : List ℕ). l ++ drop (length block) (drop start ws)) (block-there t (length block) refl) ∙ take-append-drop (length block) (drop start ws)
-      in
-      ap (λ (l : List ℕ). beforeNull (bytesOf l)) (sym (drop-drop 1 start ws) ∙ ap (drop 1) (sym front))
-      ∙ block-text block _ null
-      ∙ sym (text-kept (drop 1 block))
-      ∙ sym (ap (λ (l : List ℕ). beforeNull (bytesOf (drop 1 l))) head ∙ rw (ex, tx))
-  found-text id small b e ex tx (nowhere a n) = rw (n, drop-of-length-le ws {i = start + 1} (omega arith))
-
 -- ---- the title of a file
+
+-- the two cases of a text: none, or n bytes from byte `at` on
+pub text-none : (start : ℕ) (text : List ℕ) → length text ≡ 0 → textAt start text ≡ Label
+unfolding textAt
+text-none start text e = rw (eq-eqb (length text) 0 e)
+
+pub text-some : (start : ℕ) (text : List ℕ) (at : ℕ) → (length text ≡ 0 → ⊥) → at ≡ 2 * (start + 1) → textAt start text ≡ Text at (length text)
+unfolding textAt
+text-some start text at e q = rw (ne-eqb (length text) 0 e, q)
 
 pub title-denied : (file : List ℕ) (num at : ℕ) → surveyed file ≡ Denied num at → titleAt file ≡ Label
 unfolding titleAt titleIn

@@ -14,13 +14,14 @@ use Rattle.words.proofs.rest.Reads as rest-reads
 use Rattle.text.proofs.read.before_null.Reads as before-null-reads
 use Rattle.cuts.proofs.put_counted.Reads as put-counted-reads
 use Rattle.text.proofs.put.put_bytes.Reads as put-bytes-reads
+use Rattle.cuts.proofs.text_words.Reads as text-words-reads
 
--- what is known once the text is found
-told : (n : lts.After-before-null (rest-reads.Asked, rest-reads.Learnt, before-null-reads.Asked, before-null-reads.Learnt, put-counted-reads.Asked, put-counted-reads.Learnt, put-bytes-reads.Asked, put-bytes-reads.Learnt) reads.Pre reads.Post)
-    → IsText (wordsOf (n .before .before .before .before .args .b .now)) (n .before-null .result .now)
+-- what is known once the text is found and measured
+told : (n : lts.After-text-words (rest-reads.Asked, rest-reads.Learnt, before-null-reads.Asked, before-null-reads.Learnt, text-words-reads.Asked, text-words-reads.Learnt, put-counted-reads.Asked, put-counted-reads.Learnt, put-bytes-reads.Asked, put-bytes-reads.Learnt) reads.Pre reads.Post)
+    → IsText (wordsOf (n .before .before .before .before .before .args .b .now)) (n .before .before-null .result .now) (n .text-words .result)
 told n =
-    let s = n .before .before .before .before in
-    is-text (wordsOf (s .args .b .now)) (s .pre .0) (n .before .rest .ensures) (n .before-null .ensures)
+    let s = n .before .before .before .before .before in
+    is-text (wordsOf (s .args .b .now)) (s .pre .0) (n .before .before .rest .ensures) (n .before .before-null .ensures) (n .text-words .ensures)
 
 returns : tie.Need-returns
 returns c =
@@ -33,7 +34,7 @@ returns c =
 pub put-text-block-spec : {M : Type 1} → statement M
 put-text-block-spec =
     tie.close
-    (tie.spec (λ c κs. search needs) (λ c κs. search needs)
+    (tie.spec (λ c κs. search needs) (λ c κs. search needs) (λ c κs. search needs)
     (λ c. let t = told (c .before) in omega arith)
     (λ c κs. let t = told (c .before) in (omega arith, omega arith))
     (λ c. let t = told (c .before .before .before .before) in omega arith)
@@ -43,6 +44,11 @@ put-text-block-spec =
     (λ c. let t = told (c .before .before .before .before .before .before .before .before) in omega arith)
     (λ c. let t = told (c .before .before .before .before .before .before .before .before) in omega arith)
     (λ c. let t = told (c .before .before .before .before .before .before .before .before) in omega arith)
-    (λ c. search needs) (λ c. search needs) (λ c. search needs) (λ c. search needs) (λ c. search needs)
+    (λ c. search needs)
+    (λ c. let t = told (c .before .before .before .before .before .before .before .before .before) in omega arith)
+    (λ c. let t = told (c .before .before .before .before .before .before .before .before .before) in omega arith)
+    (λ c. let t = told (c .before .before .before .before .before .before .before .before .before) in omega arith)
+    (λ c. let t = told (c .before .before .before .before .before .before .before .before .before .before) in omega arith)
+    (λ c. let t = told (c .before .before .before .before .before .before .before .before .before .before) in omega arith)
     (λ c κs. let t = told (c .before .before .before .before .before .before .before .before .before .before .before) in omega arith)
     (λ c. omega (arith, returns c .within)) (λ c. search needs) returns)

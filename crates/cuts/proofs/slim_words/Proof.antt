@@ -15,17 +15,18 @@ returns c =
 
 returns-2 : tie.Need-returns-2
 returns-2 c =
-    let s = c .before .before .before .before .before in
-    let t = is-text (wordsOf (s .args .b .now)) (s .pre .null (c .before .before .if2 .taken)) (c .before .rest .ensures) (c .before-null .ensures) in
-    sym (text-words (s .pre) (c .before .before .before .if1 .left) (c .before .before .if2 .taken) ∙ t .words)
+    let r = c .before .before in
+    let s = r .before .before .before .before in
+    let t = is-text (wordsOf (s .args .b .now)) (s .pre .null (r .before .if2 .taken)) (r .rest .ensures) (c .before .before-null .ensures) (c .text-words .ensures) in
+    omega (arith, text-words (s .pre) (r .before .before .if1 .left) (r .before .if2 .taken), t .length-is)
 
 add-result : tie.Need-add-result
 add-result c =
-    let pre = c .before .before .before .before .before .pre in
-    omega (arith, returns-2 c, slim-short pre, pre .short (c .before .before .before .if1 .left))
+    let e = c .before .before .before .before in
+    omega (arith, returns-2 c, slim-short (e .before .before .pre), e .before .before .pre .short (e .if1 .left))
 
 returns-3 : tie.Need-returns-3
 returns-3 c = sym (plain-words (c .before .before .before .pre) (c .before .if1 .left) (c .if2 .left))
 
 pub slim-words-spec : {M : Type 1} → statement M
-slim-words-spec = tie.close (tie.spec (λ c κs. search needs) returns (λ c κs. search needs) (λ c κs. search needs) add-result returns-2 returns-3)
+slim-words-spec = tie.close (tie.spec (λ c κs. search needs) returns (λ c κs. search needs) (λ c κs. search needs) (λ c κs. search needs) add-result returns-2 returns-3)

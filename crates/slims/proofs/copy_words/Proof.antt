@@ -10,7 +10,8 @@ use Rattle.rules.specs.Slim.{Slim}
 use Rattle.accept.specs.Slims.{slimsIn}
 use Rattle.accept.proofs.Onward.{Onward, onward}
 use Rattle.slims.specs.Copy.{slimWords}
-use Rattle.slims.proofs.CopyLaws.{Turn, turn, turn-end, copy-few}
+use Rattle.slims.proofs.CopyLaws.{copy-few}
+use Rattle.slims.proofs.Turns.{Turn, turn, turn-end}
 use Rattle.slims.proofs.copy_words.Statement.{statement}
 use Rattle.slims.proofs.copy_words.Tie as tie
 use Rattle.slims.proofs.copy_words.Reads as reads

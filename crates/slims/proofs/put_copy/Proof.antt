@@ -12,7 +12,7 @@ use Rattle.accept.specs.Slims.{slimsIn}
 use Rattle.accept.proofs.Onward.{Onward, onward}
 use Rattle.cuts.proofs.WordWriting.{Begun, begin}
 use Rattle.slims.specs.Copy.{slimWords}
-use Rattle.slims.proofs.CopyLaws.{Turn, turn, turn-end, part-room, part-next, end-room, end-next}
+use Rattle.slims.proofs.Turns.{Turn, turn, turn-end, part-room, part-next, end-room, end-next}
 use Rattle.slims.proofs.put_copy.Statement.{statement}
 use Rattle.slims.proofs.put_copy.Tie as tie
 use Rattle.slims.proofs.put_copy.Reads as reads

@@ -1,10 +1,9 @@
 -- `slims::put_whole` meets its contract: room is tested before anything is written. Assumes nothing.
 use native.Mathlib.Omega.{arith}
-use mathlib.Core.Path.{refl}
 use borrow.Author.Needs.{needs}
 use Rattle.slims.specs.Copy.{slimCopy, outputBy}
 use Rattle.slims.proofs.CopyLaws.{copy-few}
-use Rattle.slims.proofs.ReplyLaws.{copy-length, no-room, has-room}
+use Rattle.slims.proofs.ReplyLaws.{copy-length, no-room, has-room, left-alone}
 use Rattle.slims.proofs.put_whole.Statement.{statement}
 use Rattle.slims.proofs.put_whole.Tie as tie
 
@@ -14,10 +13,9 @@ mul-bytes c =
     omega (arith, c .copy-words .ensures, copy-few _ (λ i. omega (arith, s .shared-slice-known .given i)) (s .before .pre))
 
 returns : tie.Need-returns
-unfolding outputBy
 returns c =
     let file = c .before .before .before .before .args .file .now in
-    (no-room (slimCopy file) _ (omega (arith, copy-length file, c .before .copy-words .ensures)), refl)
+    (no-room (slimCopy file) _ _ _ (omega (arith, copy-length file, c .before .copy-words .ensures)) (omega arith) (omega arith), left-alone (slimCopy file) _ _ _)
 
 put-copy-requires : tie.Need-put-copy-requires
 put-copy-requires c κs =

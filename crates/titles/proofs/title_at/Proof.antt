@@ -1,10 +1,8 @@
 -- `titles::title_at` is `titleAt`. Assumes nothing.
 use mathlib.Core.Path.{sym, _∙_}
-use lib.ListN.{length}
+use native.Mathlib.Omega.{arith}
 use borrow.Author.Needs.{needs}
-use borrow.Author.Tests.{eq-eqb, ne-eqb}
-use Rattle.titles.specs.Title.{textAt}
-use Rattle.titles.proofs.TitleLaws.{title-denied, title-read}
+use Rattle.titles.proofs.TitleLaws.{text-none, text-some, title-denied, title-read}
 use Rattle.titles.proofs.title_at.Statement.{statement}
 use Rattle.titles.proofs.title_at.Tie as tie
 
@@ -14,24 +12,22 @@ returns c =
     sym (title-denied (s .before .before .args .file .now) _ _ (sym (s .survey .ensures) ∙ c .enum-told .given .1))
 
 returns-2 : tie.Need-returns-2
-unfolding textAt
 returns-2 c =
     let r = c .before in
     let j = r .before .before .before .before in
     let s = j .before .before in
     sym
     (title-read (s .before .before .args .file .now) _ (sym (s .survey .ensures) ∙ j .judged .given .1) _ _ (r .before .rest .ensures .bytes) (r .before-null .ensures)
-    ∙ rw (eq-eqb (length (r .before-null .result .now)) 0 (c .if1 .taken)))
+    ∙ text-none _ _ (omega arith))
 
 returns-3 : tie.Need-returns-3
-unfolding textAt
 returns-3 c =
     let r = c .before in
     let j = r .before .before .before .before in
     let s = j .before .before in
     sym
     (title-read (s .before .before .args .file .now) _ (sym (s .survey .ensures) ∙ j .judged .given .1) _ _ (r .before .rest .ensures .bytes) (r .before-null .ensures)
-    ∙ rw (ne-eqb (length (r .before-null .result .now)) 0 (c .if1 .left)))
+    ∙ text-some _ _ _ (λ z. omega arith) (omega arith))
 
 pub title-at-spec : {M : Type 1} → statement M
 title-at-spec =

@@ -1,0 +1,2 @@
+-- The checked files. Assumes nothing.
+pub mod Closed

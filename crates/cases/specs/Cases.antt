@@ -1,0 +1,103 @@
+-- Checked files 1 to 4, 8 and 9 of document 01, beside what the calls answer to each. Assumes nothing.
+use mathlib.Core.List.{List, [], _∷_, _++_}
+use Prim.Native.Nat.{ℕ}
+use lib.ListN.{length, replicate}
+use Rattle.words.specs.Words.{wordsOf, bytesOf}
+use Rattle.blocks.specs.Walk.{endMarker}
+use Rattle.accept.specs.Judge.{absent}
+use Rattle.accept.specs.Check.{verdict, values}
+use Rattle.titles.specs.declared.TitleAt.{TitleAt}
+use Rattle.titles.specs.declared.TitleAt.the-variants.{Text, Label}
+use Rattle.titles.specs.Title.{titleAt}
+use Rattle.slims.specs.Copy.{slimCopy, slimReply, outputBy}
+
+-- a file's bytes and how many words they are; the numbers of Check's answer; where Title finds the title; the words of the slim
+-- copy and how many they are, none of a refused file
+pub record Case : Type 0 where
+  pub file : List ℕ
+  pub words : ℕ
+  pub values : List ℕ
+  pub title : TitleAt
+  pub slim : List ℕ
+  pub slim-words : ℕ
+
+-- what the definitions give for a file, where Slim has all the room it needs
+unfoldable pub asDefined : List ℕ → Case
+asDefined file =
+    record {
+      file = file;
+      words = length (wordsOf file);
+      values = values (verdict file);
+      title = titleAt file;
+      slim = wordsOf (outputBy (slimCopy file) [] (slimReply file 65536));
+      slim-words = length (wordsOf (outputBy (slimCopy file) [] (slimReply file 65536)));
+    }
+
+-- a refused file of n words, by number and position
+unfoldable pub refused : List ℕ → ℕ → ℕ → ℕ → Case
+refused file n num at =
+    record { file = file; words = n; values = num ∷ (at ∷ []); title = Label; slim = []; slim-words = 0 }
+
+-- ---- the blocks of file 8: "All blocks of least length, .. unstated words 0"
+
+-- "name BUFF1"
+unfoldable pub block01 : List ℕ
+block01 = 0x0C01 ∷ (0x5542 ∷ (0x4646 ∷ (0x0031 ∷ replicate 8 0)))
+
+-- "number 1234, version 105"
+unfoldable pub block02 : List ℕ
+block02 = 0x0602 ∷ (1234 ∷ (945 ∷ (105 ∷ replicate 2 0)))
+
+-- "title Hall with two nulls"
+unfoldable pub block03 : List ℕ
+block03 = 0x0403 ∷ (0x6148 ∷ (0x6C6C ∷ (0x0000 ∷ [])))
+
+-- "function 1"
+unfoldable pub block04 : List ℕ
+block04 = 0x1704 ∷ (0 ∷ (0 ∷ (1 ∷ replicate 19 0)))
+
+-- a profile, with its filter and its buffer code
+unfoldable pub profile : ℕ → ℕ → List ℕ
+profile filter code = 0x0606 ∷ (0 ∷ (filter ∷ (code ∷ replicate 2 0)))
+
+-- "filters A C Lin, buffer codes 4 0 1"
+unfoldable pub block05 : List ℕ
+block05 = 0x1405 ∷ (0x0307 ∷ (profile 2 4 ++ (profile 3 0 ++ profile 1 1)))
+
+-- "step 1 s 0 ms, BuffLength 8"
+unfoldable pub block0F : List ℕ
+block0F = 0x080F ∷ (1 ∷ (0 ∷ (0 ∷ (0 ∷ (0 ∷ (8 ∷ (0 ∷ [])))))))
+
+-- "contents 634, 701, FFFB, 698"
+unfoldable pub contents : List ℕ
+contents = 634 ∷ (701 ∷ (0xFFFB ∷ (698 ∷ [])))
+
+-- file 8, with these blocks before 0F
+unfoldable pub bufferFile : List ℕ → List ℕ
+bufferFile more = block01 ++ (block02 ++ (block03 ++ (block04 ++ (block05 ++ (more ++ (block0F ++ (contents ++ (endMarker ∷ []))))))))
+
+-- such a file of n words, whose 0F starts at word `at`, is accepted: 0, the function, and the starts of 01, 02, 03, 04, 05, 07,
+-- spectrum, 09 and 0F. Its title is the four bytes behind the first word of 03, its slim copy the file with no such blocks
+unfoldable pub accepted : List ℕ → ℕ → ℕ → Case
+accepted more n at =
+    record {
+      file = bytesOf (bufferFile more);
+      words = n;
+      values = 0 ∷ (1 ∷ (0 ∷ (12 ∷ (18 ∷ (22 ∷ (45 ∷ (absent ∷ (absent ∷ (absent ∷ (at ∷ []))))))))));
+      title = Text 38 4;
+      slim = bufferFile [];
+      slim-words = 78;
+    }
+
+unfoldable pub cases : List Case
+cases =
+    refused [] 0 2 0
+    ∷ refused (7 ∷ []) 0 1 0
+    ∷ refused (bytesOf (0xFFFF ∷ [])) 1 4 0
+    ∷ refused (bytesOf (0x0C01 ∷ [])) 1 2 0
+    ∷ refused (bytesOf (0x0601 ∷ replicate 5 0)) 6 3 0
+    ∷ refused (bytesOf (block01 ++ (0x0602 ∷ (0 ∷ (953 ∷ replicate 3 0))))) 18 5 14
+    ∷ refused (bytesOf (block01 ++ (0x00AA ∷ (0x0001 ∷ [])))) 14 3 12
+    ∷ accepted [] 78 65
+    ∷ accepted (0x0199 ∷ []) 79 66
+    ∷ []

@@ -1,0 +1,139 @@
+-- Every row of the table is sound, and a listed block of an accepted file can be cut by its row. Assumes nothing.
+use mathlib.Core.Bool.{true, false, cond, false≢true}
+use mathlib.Core.List.{List}
+use mathlib.Core.Logic.{_⊎_, inl, inr}
+use mathlib.Core.Path.{_≡_, refl, sym, ap, _∙_}
+use Prim.Native.Nat.{ℕ, _+_, _-_, _*_, _≤_, _<_}
+use native.Mathlib.Omega.{arith}
+use lib.Dec.{lit≤}
+use lib.ListN.{length, getD, take, drop, length-drop}
+use lib.Seq.{length-take-le, getD-take}
+use borrow.Author.Tests.{ne-eqb}
+use Rattle.words.specs.Words.{low, high}
+use Rattle.words.proofs.WordLaws.{Below, below-drop, below-take}
+use Rattle.blocks.specs.declared.Cursor.{Cursor}
+use Rattle.blocks.specs.Walk.{cut, frontOf, longForm}
+use Rattle.blocks.proofs.Fronts.{front-cuts, front-same}
+use Rattle.rules.specs.declared.Row.{Row}
+use Rattle.rules.specs.Block.{readable}
+use Rattle.rules.specs.Slim.{Slim}
+use Rattle.rules.proofs.BlockLaws.{Kept, kept-says, kept-least, kept-short}
+use Rattle.tables.specs.declared.setup.Setup.{Setup}
+use Rattle.tables.specs.Table.{rowOf}
+use Rattle.tables.specs.Setup.{rowFor}
+use Rattle.tables.proofs.TableLaws.{each-row, row-same}
+use Rattle.cuts.specs.Cut.{Sound, Cuts}
+use Rattle.accept.specs.declared.judge.State.{State}
+use Rattle.accept.proofs.Seen.{Through, unlisted, listed}
+use Rattle.accept.proofs.Onward.{Passes}
+use Rattle.slims.specs.Copy.{Within}
+
+-- ---- every row of the table is sound
+
+-- a row without sub-blocks
+lone : (r : Row) → r .subs .count ≡ 0 → r .subs .least ≡ 0 → 1 ≤ r .least → r .least < 256 → Sound r
+lone r n z some one =
+    record {
+      one-byte = one;
+      sub-one-byte = omega (arith, z);
+      few = omega (arith, n);
+      some = λ e. some;
+      sub-some = λ h. absurd (omega (arith, n, h));
+      sum = λ e f h. absurd (omega (arith, n, h));
+      whole = λ e. n;
+      alone = λ e. n;
+    }
+
+-- a row with three sub-blocks
+three : (r : Row) → r .exact ≡ false → r .text ≡ false → r .subs .count ≡ 3 → 1 ≤ r .subs .least → r .least ≡ 2 + r .subs .count * r .subs .least → r .least < 256 → Sound r
+three r x t n some sum one =
+    record {
+      one-byte = one;
+      sub-one-byte = omega (arith, sum, ap (λ (k : ℕ). k * r .subs .least) n);
+      few = omega (arith, n);
+      some = λ e. omega (arith, sum);
+      sub-some = λ h. some;
+      sum = λ e f h. sum;
+      whole = λ e. absurd (false≢true (sym x ∙ e));
+      alone = λ e. absurd (false≢true (sym t ∙ e));
+    }
+
+row-sound : (id : ℕ) → rowOf id .listed ≡ true → Sound (rowOf id)
+row-sound =
+    each-row (λ r. r .listed ≡ true → Sound r)
+    (λ l. lone _ refl refl (lit≤ tt) (lit≤ tt)) (λ l. lone _ refl refl (lit≤ tt) (lit≤ tt)) (λ l. lone _ refl refl (lit≤ tt) (lit≤ tt))
+    (λ l. lone _ refl refl (lit≤ tt) (lit≤ tt)) (λ l. three _ refl refl refl (lit≤ tt) refl (lit≤ tt)) (λ l. three _ refl refl refl (lit≤ tt) refl (lit≤ tt))
+    (λ l. lone _ refl refl (lit≤ tt) (lit≤ tt)) (λ l. lone _ refl refl (lit≤ tt) (lit≤ tt)) (λ l. three _ refl refl refl (lit≤ tt) refl (lit≤ tt))
+    (λ l. lone _ refl refl (lit≤ tt) (lit≤ tt)) (λ l. lone _ refl refl (lit≤ tt) (lit≤ tt))
+    (λ l. absurd (false≢true l))
+
+-- ---- a listed block of an accepted file can be cut
+
+module _ (s : Setup) (w : ℕ) where
+  same-exact : rowFor s w .exact ≡ rowOf (low w) .exact
+  same-exact = row-same (λ r. r .exact) (λ n. refl) (λ rs n. refl) s w
+
+  same-text : rowFor s w .text ≡ rowOf (low w) .text
+  same-text = row-same (λ r. r .text) (λ n. refl) (λ rs n. refl) s w
+
+  same-subs : rowFor s w .subs ≡ rowOf (low w) .subs
+  same-subs = row-same (λ r. r .subs) (λ n. refl) (λ rs n. refl) s w
+
+  -- a histogram's least words are its classes', another block's are its id's
+  same-least : cond (rowFor s w .exact) 0 (rowFor s w .least) ≡ cond (rowOf (low w) .exact) 0 (rowOf (low w) .least)
+  same-least = row-same (λ r. cond (r .exact) 0 (r .least)) (λ n. refl) (λ rs n. refl) s w
+
+  least-same : rowOf (low w) .exact ≡ false → rowFor s w .least ≡ rowOf (low w) .least
+  least-same x = rw (same-exact ∙ x, x) at same-least
+
+-- a listed block that is no histogram counts itself in its first word
+counts-itself : (w : ℕ) → rowOf (low w) .listed ≡ true → rowOf (low w) .exact ≡ false → (high w ≡ 0 → ⊥) → longForm w ≡ false
+unfolding rowOf longForm
+counts-itself w l x h =
+    simp (
+      ne-eqb (high w) 0 h,
+      ne-eqb (low w) 0x0B (λ e. false≢true (sym x ∙ ap (λ (i : ℕ). rowOf i .exact) e)),
+      ne-eqb (low w) 0x14 (λ e. false≢true (sym (ap (λ (i : ℕ). rowOf i .listed) e) ∙ l)),
+    )
+
+module _ (b : List ℕ) (below : Below 65536 b) (whole : frontOf b ≡ cut (length b)) where
+  cut-short : longForm (getD b 0 0) ≡ false → length b < 256
+  cut-short f = go (front-cuts b (length b) whole .size)
+    where
+      go : ((longForm (getD b 0 0) ≡ true) × (2 ≤ getD b 1 0) × (length b ≡ getD b 1 0)) ⊎ ((longForm (getD b 0 0) ≡ false) × (length b ≡ high (getD b 0 0))) → length b < 256
+      go (inl (t, two, z)) = absurd (false≢true (sym f ∙ t))
+      go (inr (t, z)) = omega (arith, z, below 0)
+
+  kept-cuts : (s : Setup) → rowOf (low (getD b 0 0)) .listed ≡ true → Kept (rowFor s (getD b 0 0)) b → Cuts (rowOf (low (getD b 0 0))) b
+  unfolding readable
+  kept-cuts s l k =
+      let w = getD b 0 0 in
+      record {
+        sound = row-sound (low w) l;
+        long = λ x. omega (arith, kept-least (rowFor s w) b k, least-same s w x);
+        short = λ x. cut-short (counts-itself w l x (kept-short k (same-exact s w ∙ x)));
+        null = λ t. rw (same-text s w ∙ t) at (k .null);
+        subs = rw (same-subs s w) at (k .subs);
+      }
+
+-- ---- a block that Slim goes over
+
+pub inside : {ws : List ℕ} {m : ℕ} {s s′ : State} {start len : ℕ} {next : Cursor} → Below 65536 ws → length ws ≤ 32768 → Passes ws m s s′ start len next → Within ws start len
+inside {ws} {s = s} {start = start} {len} below few o =
+    record {
+      short = few;
+      fits = o .fits;
+      good = by (o .through);
+    }
+  where
+    size : length (take len (drop start ws)) ≡ len
+    size = length-take-le len (drop start ws) (omega (arith, o .fits, length-drop start ws))
+
+    whole : frontOf (take len (drop start ws)) ≡ cut (length (take len (drop start ws)))
+    whole = rw size (front-same (drop start ws) (take len (drop start ws)) len (o .front) (omega (arith, size)) (λ i h. getD-take len (drop start ws) i 0 h))
+
+    by : Through s start (take len (drop start ws)) (o .state) → rowOf (low (getD (take len (drop start ws)) 0 0)) .listed ≡ true
+        → Cuts (rowOf (low (getD (take len (drop start ws)) 0 0))) (take len (drop start ws))
+    by (unlisted l e) y = absurd (false≢true (sym l ∙ y))
+    by (listed l d g e) y =
+        kept-cuts (take len (drop start ws)) (below-take len (drop start ws) (omega arith) (below-drop start ws below)) whole (s .setup) y (kept-says _ _ g)
