@@ -27,7 +27,8 @@ use Rattle.accept.proofs.FoundWords.{accepted-few}
 use Rattle.accept.specs.declared.judge.State.{State}
 use Rattle.accept.proofs.Onward.{refused, no-fuel, passes, slims-over, slims-block, onward}
 use Rattle.slims.proofs.Cuttable.{inside}
-use Rattle.slims.specs.Copy.{slimWords, partWords, Accepted, Within}
+use Rattle.slims.specs.Copy.{slimWords}
+use Rattle.slims.specs.Asked.{partWords, Accepted, Within}
 
 -- ---- its words in the slim copy
 

@@ -26,7 +26,7 @@ use Rattle.cuts.specs.Cut.{Sound, Cuts}
 use Rattle.accept.specs.declared.judge.State.{State}
 use Rattle.accept.proofs.Seen.{Through, unlisted, listed}
 use Rattle.accept.proofs.Onward.{Passes}
-use Rattle.slims.specs.Copy.{Within}
+use Rattle.slims.specs.Asked.{Within}
 
 -- ---- every row of the table is sound
 

@@ -21,7 +21,8 @@ use Rattle.accept.proofs.FoundWords.{accepted-few}
 use Rattle.accept.proofs.Onward.{passes, Onward, onward-over, onward-block}
 use Rattle.slims.proofs.Cuttable.{inside}
 use Rattle.slims.proofs.CopyLaws.{words-split, words-end}
-use Rattle.slims.specs.Copy.{slimWords, partWords, Accepted, Within}
+use Rattle.slims.specs.Copy.{slimWords}
+use Rattle.slims.specs.Asked.{partWords, Accepted, Within}
 
 -- ---- a turn of a loop over the blocks of an accepted file, with the slim blocks xs left
 

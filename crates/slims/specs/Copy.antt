@@ -1,21 +1,18 @@
 -- The slim copy of a file, and what Slim answers (document 01, Slim copy and Refusal numbers). Assumes nothing.
-use mathlib.Core.Bool.{true, cond}
+use mathlib.Core.Bool.{cond}
 use mathlib.Core.List.{List, [], _∷_, _++_, flatMap}
 use mathlib.Core.Path.{_≡_}
-use Prim.Native.Nat.{ℕ, _+_, _≤_}
+use Prim.Native.Nat.{ℕ}
 use lib.Dec.{ltb}
-use lib.ListN.{length, getD, take, drop}
-use Rattle.words.specs.Words.{low, bytesOf}
+use lib.ListN.{length}
+use Rattle.words.specs.Words.{bytesOf}
 use Rattle.text.specs.Text.{over}
-use Rattle.blocks.specs.Walk.{Part, endMarker, rawOf}
+use Rattle.blocks.specs.Walk.{endMarker}
 use Rattle.rules.specs.Slim.{Slim, wordsIn}
-use Rattle.tables.specs.Table.{rowOf}
-use Rattle.cuts.specs.Cut.{Cuts}
-use Rattle.accept.specs.declared.judge.State.{State}
 use Rattle.accept.specs.declared.judge.Judged.{Judged}
 use Rattle.accept.specs.declared.judge.Judged.the-variants.{Passed, Denied}
 use Rattle.accept.specs.Judge.{surveyed}
-use Rattle.accept.specs.Slims.{slimPart, slimsIn}
+use Rattle.accept.specs.Slims.{slimsIn}
 use Rattle.slims.specs.declared.Reply.{Reply}
 use Rattle.slims.specs.declared.Reply.the-variants.{Written, Refused}
 
@@ -57,21 +54,3 @@ values (Refused num at) = num ∷ (at ∷ [])
 pub record Slimmed (file before after : List ℕ) (answer : Reply) : Type 0 where
   pub answer-is : values answer ≡ values (slimReply file (length before))
   pub output-is : after ≡ outputBy (slimCopy file) before (slimReply file (length before))
-
--- ---- what the code asks
-
--- an accepted file
-pub record Accepted (file : List ℕ) : Type 0 where
-  pub state : State
-  pub passed : surveyed file ≡ Passed state
-
--- the words of a block and its raw contents in the slim copy; none of a block that is not listed
-unfoldable pub partWords : Part → List ℕ
-partWords p = flatMap wordsIn (slimPart p)
-
--- a block within a file of 32,768 words at most, and good by its row where it is listed
-pub record Within (ws : List ℕ) (start len : ℕ) : Type 0 where
-  pub short : length ws ≤ 32768
-  pub fits : start + (len + rawOf (take len (drop start ws))) ≤ length ws
-  pub good : rowOf (low (getD (take len (drop start ws)) 0 0)) .listed ≡ true
-      → Cuts (rowOf (low (getD (take len (drop start ws)) 0 0))) (take len (drop start ws))

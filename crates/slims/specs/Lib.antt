@@ -1,2 +1,3 @@
 -- What the clauses of the crate cite. Assumes nothing.
 pub mod Copy
+pub mod Asked

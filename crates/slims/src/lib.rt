@@ -19,7 +19,8 @@ ghost use Rattle.words.specs.Words.{low, wordsOf};
 ghost use Rattle.tables.specs.Table.{rowOf};
 ghost use Rattle.cuts.specs.Cut.{WroteWords, HasRoom};
 ghost use Rattle.accept.specs.Slims.{slimsIn, partAt};
-ghost use Rattle.slims.specs.Copy.{slimWords, slimCopy, roomFor, outputBy, Slimmed, Accepted, partWords, Within};
+ghost use Rattle.slims.specs.Copy.{slimWords, slimCopy, roomFor, outputBy, Slimmed};
+ghost use Rattle.slims.specs.Asked.{Accepted, partWords, Within};
 
 // The answer of Slim: how many bytes were written, or a refusal.
 pub enum Reply {

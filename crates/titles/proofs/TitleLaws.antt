@@ -23,7 +23,7 @@ use Rattle.accept.proofs.Found.{isIn, found}
 use Rattle.accept.proofs.FoundWords.{accepted-few}
 use Rattle.titles.proofs.Texts.{text-front, found-text}
 use Rattle.titles.specs.declared.TitleAt.the-variants.{Text, Label}
-use Rattle.titles.specs.Title.{titleText, textAt, titleIn, titleAt, seen, partOf, handed, titleOf}
+use Rattle.titles.specs.Title.{titleText, textAt, titleIn, titleAt, seen, partOf, handed, titleOf, Titled}
 
 -- ---- the title of a file
 
@@ -104,3 +104,7 @@ module _ (file label : RefT (List ℕ)) where
           ≡ cond t (label .now) (titleText (slimsIn (file .now)))
       go true = refl
       go false = title-there (file .now) s e small
+
+  -- two slices that Title may hand back start at the same place and have the same bytes
+  pub title-one : (r q : RefT (List ℕ)) → Titled file label r → Titled file label q → seen r ≡ seen q
+  title-one r q e f = e ∙ sym f

@@ -2,6 +2,7 @@
 -- the whole label, not a copy" (document 01, What the converter takes). Assumes nothing.
 use mathlib.Core.Bool.{cond}
 use mathlib.Core.List.{List}
+use mathlib.Core.Path.{_≡_}
 use Prim.Native.Nat.{ℕ, _+_, _*_}
 use lib.Dec.{eqb}
 use lib.ListN.{length, take, drop}
@@ -48,6 +49,10 @@ unfoldable pub handed : RefT (List ℕ) → RefT (List ℕ) → TitleAt → Seen
 handed file label (Text at n) = partOf file at n
 handed file label Label = seen label
 
--- the promise of Title: the place and the bytes of what it hands back
+-- what Title hands back for a file and a label
 unfoldable pub titleOf : RefT (List ℕ) → RefT (List ℕ) → Seen
 titleOf file label = handed file label (titleAt (file .now))
+
+-- the promise of Title: what it hands back is that, place and bytes
+abbrev pub Titled : RefT (List ℕ) → RefT (List ℕ) → RefT (List ℕ) → Type 0
+Titled file label r = seen r ≡ titleOf file label

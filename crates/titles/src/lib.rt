@@ -4,7 +4,7 @@ use accept::judge::survey;
 use text::read::before_null;
 use words::rest;
 ghost use mathlib.Core.Path.{_≡_};
-ghost use Rattle.titles.specs.Title.{titleAt, seen, titleOf};
+ghost use Rattle.titles.specs.Title.{titleAt, Titled};
 
 // Where a title stands: `len` bytes of the file from byte `at` on, or in the label.
 pub enum TitleAt {
@@ -30,7 +30,7 @@ pub fn title_at(file: &[u8]) -> TitleAt
 
 // The title of a file, as the part of the file that it is, or the label.
 pub fn title<'a>(file: &'a [u8], label: &'a [u8]) -> &'a [u8]
-    ensures { λ r. ⌜ seen r ≡ titleOf (file .entry) (label .entry) ⌝ }
+    ensures { λ r. ⌜ Titled (file .entry) (label .entry) r ⌝ }
 {
     let found = title_at(file);
     let TitleAt::Text { at, len } = found else {
