@@ -3,4 +3,5 @@ pub mod DecimalLaws
 pub mod DecimalMeans
 pub mod Filling
 pub mod FitLaws
+pub mod Nulls
 pub mod Writing

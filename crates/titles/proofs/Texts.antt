@@ -51,16 +51,6 @@ unfolding nulled
 block-text [] vs e = absurd (false≢true e)
 block-text (w ∷ b) vs e = text-within b vs e
 
--- a text is the front of the bytes that it stands in
-pub text-front : (bs : List ℕ) → take (length (beforeNull bs)) bs ≡ beforeNull bs
-unfolding beforeNull
-text-front [] = refl
-text-front (b ∷ bs) = go (eqb b 0) (text-front bs)
-  where
-    go : (t : Bool) → take (length (beforeNull bs)) bs ≡ beforeNull bs → take (length (cond t [] (b ∷ beforeNull bs))) (b ∷ bs) ≡ cond t [] (b ∷ beforeNull bs)
-    go true e = refl
-    go false e = ap (λ (l : List ℕ). b ∷ l) e
-
 -- ---- the text of a block that was found
 
 -- a block that was found is the front of the words from its start on

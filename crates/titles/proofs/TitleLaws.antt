@@ -21,7 +21,8 @@ use Rattle.accept.specs.Slims.{slimsIn, places, startOf}
 use Rattle.accept.proofs.Seen.{no-denied}
 use Rattle.accept.proofs.Found.{isIn, found}
 use Rattle.accept.proofs.FoundWords.{accepted-few}
-use Rattle.titles.proofs.Texts.{text-front, found-text}
+use Rattle.text.proofs.Nulls.{text-front}
+use Rattle.titles.proofs.Texts.{found-text}
 use Rattle.titles.specs.declared.TitleAt.the-variants.{Text, Label}
 use Rattle.titles.specs.Title.{titleText, textAt, titleIn, titleAt, seen, partOf, handed, titleOf, Titled}
 
