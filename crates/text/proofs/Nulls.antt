@@ -8,15 +8,6 @@ use lib.ListN.{length, take}
 use Rattle.bytes.specs.Bytes.{indexAfter, indexOf}
 use Rattle.text.specs.Text.{beforeNull}
 
-pub text-front : (bs : List ℕ) → take (length (beforeNull bs)) bs ≡ beforeNull bs
-unfolding beforeNull
-text-front [] = refl
-text-front (b ∷ bs) = go (eqb b 0) (text-front bs)
-  where
-    go : (t : Bool) → take (length (beforeNull bs)) bs ≡ beforeNull bs → take (length (cond t [] (b ∷ beforeNull bs))) (b ∷ bs) ≡ cond t [] (b ∷ beforeNull bs)
-    go true e = refl
-    go false e = ap (λ (l : List ℕ). b ∷ l) e
-
 -- the place of the first null is where the text ends
 pub null-at : (bs : List ℕ) → indexOf 0 bs ≡ length (beforeNull bs)
 unfolding indexOf indexAfter beforeNull
@@ -26,3 +17,12 @@ null-at (b ∷ bs) = go (eqb b 0) (null-at bs)
     go : (t : Bool) → indexOf 0 bs ≡ length (beforeNull bs) → indexAfter t (indexOf 0 bs) ≡ length (cond t [] (b ∷ beforeNull bs))
     go true e = refl
     go false e = ap suc e
+
+pub text-front : (bs : List ℕ) → take (length (beforeNull bs)) bs ≡ beforeNull bs
+unfolding beforeNull
+text-front [] = refl
+text-front (b ∷ bs) = go (eqb b 0) (text-front bs)
+  where
+    go : (t : Bool) → take (length (beforeNull bs)) bs ≡ beforeNull bs → take (length (cond t [] (b ∷ beforeNull bs))) (b ∷ bs) ≡ cond t [] (b ∷ beforeNull bs)
+    go true e = refl
+    go false e = ap (λ (l : List ℕ). b ∷ l) e
