@@ -49,7 +49,7 @@ pub data Found (ws : List ℕ) (place start : ℕ) (x : Slim) : Type 0 where
   nowhere : start ≡ absent → x ≡ noSlim → Found ws place start x
 
 -- the block of a step is the one that starts there
-block-at : (ws : List ℕ) (at k : ℕ) → frontOf (drop at ws) ≡ cut k → blockAt ws at ≡ take k (drop at ws)
+pub block-at : (ws : List ℕ) (at k : ℕ) → frontOf (drop at ws) ≡ cut k → blockAt ws at ≡ take k (drop at ws)
 unfolding blockAt
 block-at ws at k e = rw (e, blockAt)
 

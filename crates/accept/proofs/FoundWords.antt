@@ -6,7 +6,7 @@ use Prim.Native.Nat.{ℕ, zero, suc, _%_, _≤_, _<_}
 use native.Mathlib.Omega.{arith}
 use lib.Dec.{eqb, ltb}
 use lib.ListN.{length, getD, drop-of-length-le}
-use borrow.Author.Tests.{eqb-true, ltb-false}
+use borrow.Author.Tests.{eqb-true, eqb-false, ltb-false}
 use Rattle.words.specs.Words.{low, wordsOf}
 use Rattle.words.proofs.WordLaws.{words-length}
 use Rattle.blocks.specs.Walk.{fronted, frontOf, rawOf}
@@ -102,9 +102,13 @@ module _ {ws : List ℕ} (few : length ws ≤ 32768) {start : ℕ} {x : Slim} wh
       ∙ ap (λ (i : ℕ). headBy (rowOf i) (blockAt ws start)) (histogram-id (getD (blockAt ws start) 0 0) place h (t .place-is))
   found-whole place h (nowhere a n) = rw (n, none-at ws start (omega arith))
 
--- an accepted file has 32,768 words at most
-pub accepted-few : (file : List ℕ) (s : State) → surveyed file ≡ Passed s → length (wordsOf file) ≤ 32768
+-- an accepted file has an even number of bytes, and 65,536 at most
+pub accepted-fits : (file : List ℕ) (s : State) → surveyed file ≡ Passed s → (length file % 2 ≡ 0) × (length file ≤ 65536)
 unfolding surveyed misfit
-accepted-few file s e =
+accepted-fits file s e =
     let fits = or-neither (eqb (length file % 2) 1) (ltb 65536 (length file)) (cond-second (misfit file) e no-denied .0) in
-    omega (arith, words-length file, ltb-false 65536 (length file) (fits .1))
+    (omega (arith, eqb-false (length file % 2) 1 (fits .0)), ltb-false 65536 (length file) (fits .1))
+
+-- so it has 32,768 words at most
+pub accepted-few : (file : List ℕ) (s : State) → surveyed file ≡ Passed s → length (wordsOf file) ≤ 32768
+accepted-few file s e = omega (arith, words-length file, accepted-fits file s e .1)

@@ -57,7 +57,7 @@ lone (x ∷ []) l e = rw e
 lone (x ∷ (y ∷ ws)) l e = absurd (omega arith)
 
 -- a block at the front, where its raw words are there too
-cut-whole : (ws : List ℕ) (k : ℕ) → frontOf ws ≡ cut k → rawOf (take k ws) ≤ length (drop k ws) → Whole (record { words = take k ws; raw = take (rawOf (take k ws)) (drop k ws) })
+pub cut-whole : (ws : List ℕ) (k : ℕ) → frontOf ws ≡ cut k → rawOf (take k ws) ≤ length (drop k ws) → Whole (record { words = take k ws; raw = take (rawOf (take k ws)) (drop k ws) })
 cut-whole ws k f h =
     let c = front-cuts ws k f in
     let l : length (take k ws) ≡ k = length-take-le k ws (c .fits) in

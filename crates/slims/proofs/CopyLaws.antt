@@ -6,7 +6,7 @@ use Prim.Native.Nat.{ℕ, zero, suc, _+_, _-_, _≤_}
 use native.Mathlib.Omega.{arith}
 use lib.ListN.{length, getD, take, drop, length-append, length-drop}
 use lib.Seq.{length-take-le}
-use Rattle.words.specs.Words.{low, wordsOf}
+use Rattle.words.specs.Words.{low, wordsOf, Holds}
 use Rattle.words.proofs.WordLaws.{Below, words-below}
 use Rattle.blocks.specs.declared.Cursor.{Cursor}
 use Rattle.blocks.specs.declared.Stop.the-variants.{End, Refused}
@@ -63,6 +63,10 @@ words-end = refl
 pub record Read (ws : List ℕ) (start len : ℕ) (b : List ℕ) (row : Row) : Type 0 where
   pub words : b ≡ take len (drop start ws)
   pub row-is : row ≡ rowOf (low (getD b 0 0))
+
+pub read-at : (ws : List ℕ) (start len : ℕ) {from part : List ℕ} {row : Row} → Holds (drop start ws) from → Holds (take len (wordsOf from)) part
+    → row ≡ rowOf (low (getD (wordsOf part) 0 0)) → Read ws start len (wordsOf part) row
+read-at ws start len f p r = record { words = p .words ∙ ap (take len) (f .words); row-is = r }
 
 module _ {ws : List ℕ} {start len : ℕ} {b : List ℕ} {row : Row} (t : Read ws start len b row) where
   own-row : row ≡ rowOf (low (getD (take len (drop start ws)) 0 0))

@@ -1,5 +1,5 @@
 -- Every row of the table is sound, and a listed block of an accepted file can be cut by its row. Assumes nothing.
-use mathlib.Core.Bool.{true, false, cond, false≢true}
+use mathlib.Core.Bool.{true, false, false≢true}
 use mathlib.Core.List.{List}
 use mathlib.Core.Logic.{_⊎_, inl, inr}
 use mathlib.Core.Path.{_≡_, refl, sym, ap, _∙_}
@@ -7,13 +7,13 @@ use Prim.Native.Nat.{ℕ, _+_, _-_, _*_, _≤_, _<_}
 use native.Mathlib.Omega.{arith}
 use lib.Dec.{lit≤}
 use lib.ListN.{length, getD, take, drop, length-drop}
-use lib.Seq.{length-take-le, getD-take}
 use borrow.Author.Tests.{ne-eqb}
 use Rattle.words.specs.Words.{low, high}
 use Rattle.words.proofs.WordLaws.{Below, below-drop, below-take}
 use Rattle.blocks.specs.declared.Cursor.{Cursor}
-use Rattle.blocks.specs.Walk.{cut, frontOf, longForm}
-use Rattle.blocks.proofs.Fronts.{front-cuts, front-same}
+use Rattle.blocks.specs.Walk.{cut, frontOf, longForm, rawOf}
+use Rattle.blocks.proofs.Fronts.{front-cuts}
+use Rattle.blocks.proofs.Segments.{cut-whole}
 use Rattle.rules.specs.declared.Row.{Row}
 use Rattle.rules.specs.Block.{readable}
 use Rattle.rules.specs.Slim.{Slim}
@@ -21,7 +21,7 @@ use Rattle.rules.proofs.BlockLaws.{Kept, kept-says, kept-least, kept-short}
 use Rattle.tables.specs.declared.setup.Setup.{Setup}
 use Rattle.tables.specs.Table.{rowOf}
 use Rattle.tables.specs.Setup.{rowFor}
-use Rattle.tables.proofs.TableLaws.{each-row, row-same}
+use Rattle.tables.proofs.TableLaws.{each-row, row-exact, row-text, row-subs, row-least}
 use Rattle.cuts.specs.Cut.{Sound, Cuts}
 use Rattle.accept.specs.declared.judge.State.{State}
 use Rattle.accept.proofs.Seen.{Through, unlisted, listed}
@@ -69,23 +69,6 @@ row-sound =
 
 -- ---- a listed block of an accepted file can be cut
 
-module _ (s : Setup) (w : ℕ) where
-  same-exact : rowFor s w .exact ≡ rowOf (low w) .exact
-  same-exact = row-same (λ r. r .exact) (λ n. refl) (λ rs n. refl) s w
-
-  same-text : rowFor s w .text ≡ rowOf (low w) .text
-  same-text = row-same (λ r. r .text) (λ n. refl) (λ rs n. refl) s w
-
-  same-subs : rowFor s w .subs ≡ rowOf (low w) .subs
-  same-subs = row-same (λ r. r .subs) (λ n. refl) (λ rs n. refl) s w
-
-  -- a histogram's least words are its classes', another block's are its id's
-  same-least : cond (rowFor s w .exact) 0 (rowFor s w .least) ≡ cond (rowOf (low w) .exact) 0 (rowOf (low w) .least)
-  same-least = row-same (λ r. cond (r .exact) 0 (r .least)) (λ n. refl) (λ rs n. refl) s w
-
-  least-same : rowOf (low w) .exact ≡ false → rowFor s w .least ≡ rowOf (low w) .least
-  least-same x = rw (same-exact ∙ x, x) at same-least
-
 -- a listed block that is no histogram counts itself in its first word
 counts-itself : (w : ℕ) → rowOf (low w) .listed ≡ true → rowOf (low w) .exact ≡ false → (high w ≡ 0 → ⊥) → longForm w ≡ false
 unfolding rowOf longForm
@@ -110,10 +93,10 @@ module _ (b : List ℕ) (below : Below 65536 b) (whole : frontOf b ≡ cut (leng
       let w = getD b 0 0 in
       record {
         sound = row-sound (low w) l;
-        long = λ x. omega (arith, kept-least (rowFor s w) b k, least-same s w x);
-        short = λ x. cut-short (counts-itself w l x (kept-short k (same-exact s w ∙ x)));
-        null = λ t. rw (same-text s w ∙ t) at (k .null);
-        subs = rw (same-subs s w) at (k .subs);
+        long = λ x. omega (arith, kept-least (rowFor s w) b k, row-least s w x);
+        short = λ x. cut-short (counts-itself w l x (kept-short k (row-exact s w ∙ x)));
+        null = λ t. rw (row-text s w ∙ t) at (k .null);
+        subs = rw (row-subs s w) at (k .subs);
       }
 
 -- ---- a block that Slim goes over
@@ -126,14 +109,11 @@ inside {ws} {s = s} {start = start} {len} below few o =
       good = by (o .through);
     }
   where
-    size : length (take len (drop start ws)) ≡ len
-    size = length-take-le len (drop start ws) (omega (arith, o .fits, length-drop start ws))
-
-    whole : frontOf (take len (drop start ws)) ≡ cut (length (take len (drop start ws)))
-    whole = rw size (front-same (drop start ws) (take len (drop start ws)) len (o .front) (omega (arith, size)) (λ i h. getD-take len (drop start ws) i 0 h))
+    fits : rawOf (take len (drop start ws)) ≤ length (drop len (drop start ws))
+    fits = omega (arith, o .fits, length-drop len (drop start ws), length-drop start ws)
 
     by : Through s start (take len (drop start ws)) (o .state) → rowOf (low (getD (take len (drop start ws)) 0 0)) .listed ≡ true
         → Cuts (rowOf (low (getD (take len (drop start ws)) 0 0))) (take len (drop start ws))
     by (unlisted l e) y = absurd (false≢true (sym l ∙ y))
     by (listed l d g e) y =
-        kept-cuts (take len (drop start ws)) (below-take len (drop start ws) (omega arith) (below-drop start ws below)) whole (s .setup) y (kept-says _ _ g)
+        kept-cuts (take len (drop start ws)) (below-take len (drop start ws) (omega arith) (below-drop start ws below)) (cut-whole (drop start ws) len (o .front) fits .counted) (s .setup) y (kept-says _ _ g)

@@ -5,7 +5,7 @@ use mathlib.Core.Path.{_≡_, refl, sym, ap, _∙_}
 use Prim.Native.Nat.{ℕ, _+_, _≤_, _<_}
 use native.Mathlib.Omega.{arith}
 use lib.Dec.{eqb}
-use lib.ListN.{length, getD, take, drop, take-append-drop, drop-of-length-le}
+use lib.ListN.{length, getD, drop, take-append-drop, drop-of-length-le}
 use lib.Seq.{drop-drop}
 use Rattle.words.specs.Words.{low, high, bytesOf}
 use Rattle.text.specs.Text.{beforeNull}
@@ -14,9 +14,9 @@ use Rattle.rules.specs.Slim.{Slim, textOf, cutText, headBy, slimBy}
 use Rattle.rules.proofs.BlockLaws.{kept-says}
 use Rattle.tables.specs.Table.{rowOf}
 use Rattle.tables.specs.Setup.{slimOf}
-use Rattle.tables.proofs.TableLaws.{row-same}
+use Rattle.tables.proofs.TableLaws.{row-text}
 use Rattle.accept.specs.Slims.{blockAt}
-use Rattle.accept.proofs.Found.{There, Found, there, nowhere, found}
+use Rattle.accept.proofs.Found.{block-at, Found, there, nowhere, found}
 use Rattle.accept.proofs.FoundWords.{place-id}
 
 -- ---- texts
@@ -53,11 +53,6 @@ block-text (w ∷ b) vs e = text-within b vs e
 
 -- ---- the text of a block that was found
 
--- a block that was found is the front of the words from its start on
-block-there : {ws : List ℕ} {place start : ℕ} {x : Slim} → There ws place start x → (k : ℕ) → length (blockAt ws start) ≡ k → blockAt ws start ≡ take k (drop start ws)
-unfolding blockAt
-block-there t k q = rw (rw q at (t .front), blockAt)
-
 -- the files that may be accepted have 32,768 words at most
 module _ {ws : List ℕ} (few : length ws ≤ 32768) {start : ℕ} {x : Slim} where
   -- a text, read from word 1 of its block on in the file, and in the block's slim form
@@ -68,11 +63,11 @@ module _ {ws : List ℕ} (few : length ws ≤ 32768) {start : ℕ} {x : Slim} wh
       let block = blockAt ws start in
       let w = getD block 0 0 in
       let same : low w ≡ id = place-id w id small b e (t .place-is) in
-      let text = row-same (λ r. r .text) (λ n. refl) (λ rs n. refl) (t .setup) w ∙ ap (λ (i : ℕ). rowOf i .text) same ∙ tx in
+      let text = row-text (t .setup) w ∙ ap (λ (i : ℕ). rowOf i .text) same ∙ tx in
       let null : nulled (drop 1 block) ≡ true = rw text at (kept-says _ block (t .good) .null) in
       let head : x .head ≡ headBy (rowOf id) block = ap (λ (y : Slim). y .head) (t .slim) ∙ ap (λ (i : ℕ). headBy (rowOf i) block) same in
       let front : block ++ drop (length block) (drop start ws) ≡ drop start ws =
-      ap (λ (l : List ℕ). l ++ drop (length block) (drop start ws)) (block-there t (length block) refl) ∙ take-append-drop (length block) (drop start ws)
+      ap (λ (l : List ℕ). l ++ drop (length block) (drop start ws)) (block-at ws start (length block) (t .front)) ∙ take-append-drop (length block) (drop start ws)
       in
       ap (λ (l : List ℕ). beforeNull (bytesOf l)) (sym (drop-drop 1 start ws) ∙ ap (drop 1) (sym front))
       ∙ block-text block _ null

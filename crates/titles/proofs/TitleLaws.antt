@@ -2,25 +2,24 @@
 use mathlib.Core.Bool.{Bool, true, false, cond}
 use mathlib.Core.List.{List}
 use mathlib.Core.Path.{_≡_, refl, sym, ap, _∙_}
-use Prim.Native.Nat.{ℕ, _+_, _*_, _%_, _≤_}
+use Prim.Native.Nat.{ℕ, _+_, _*_, _≤_}
 use native.Mathlib.Omega.{arith}
-use lib.Dec.{eqb, ltb}
+use lib.Dec.{eqb}
 use lib.ListN.{length, take, drop, length-take, length-drop}
 use denote.Ref.{RefT}
 use borrow.Author.Tests.{eqb-false, eq-eqb, ne-eqb}
 use Rattle.words.specs.Words.{wordsOf, bytesOf}
-use Rattle.words.proofs.Choice.{cond-second, or-neither}
+use Rattle.words.proofs.Choice.{cond-second}
 use Rattle.words.proofs.WordLaws.{Below, bytes-drop, bytes-of-words}
 use Rattle.text.specs.Text.{beforeNull}
 use Rattle.tables.specs.Table.{rowOf}
 use Rattle.accept.specs.declared.judge.State.{State}
 use Rattle.accept.specs.declared.judge.Judged.{Judged}
 use Rattle.accept.specs.declared.judge.Judged.the-variants.{Passed, Denied}
-use Rattle.accept.specs.Judge.{misfit, surveyed}
+use Rattle.accept.specs.Judge.{surveyed}
 use Rattle.accept.specs.Slims.{slimsIn, places, startOf}
-use Rattle.accept.proofs.Seen.{no-denied}
 use Rattle.accept.proofs.Found.{isIn, found}
-use Rattle.accept.proofs.FoundWords.{accepted-few}
+use Rattle.accept.proofs.FoundWords.{accepted-fits, accepted-few}
 use Rattle.text.proofs.Nulls.{text-front}
 use Rattle.titles.proofs.Texts.{found-text}
 use Rattle.titles.specs.declared.TitleAt.the-variants.{Text, Label}
@@ -56,11 +55,9 @@ module _ (file : List ℕ) (s : State) (e : surveyed file ≡ Passed s) where
 
   -- the bytes of the file where the text of its block stands
   title-there : Below 256 file → take (length (titleText (slimsIn file))) (drop (2 * (s .starts .title + 1)) file) ≡ titleText (slimsIn file)
-  unfolding surveyed misfit
   title-there small =
       let first = s .starts .title + 1 in
-      let fits = or-neither (eqb (length file % 2) 1) (ltb 65536 (length file)) (cond-second (misfit file) e no-denied .0) in
-      let whole = bytes-of-words file small (omega (arith, eqb-false (length file % 2) 1 (fits .0))) in
+      let whole = bytes-of-words file small (accepted-fits file s e .0) in
       let bytes : bytesOf (drop first (wordsOf file)) ≡ drop (2 * first) file = bytes-drop first (wordsOf file) ∙ ap (drop (2 * first)) whole in
       rw (← title-found, ← bytes) (text-front _)
 

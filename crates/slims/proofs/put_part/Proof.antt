@@ -1,7 +1,7 @@
 -- `slims::put_part` meets its contract: the block's slim form, and then its raw words. Assumes nothing.
 use native.Mathlib.Omega.{arith}
 use mathlib.Core.List.{List, []}
-use mathlib.Core.Path.{_≡_, sym, ap, subst, _∙_}
+use mathlib.Core.Path.{_≡_, sym, subst}
 use Prim.Native.Nat.{ℕ, _+_}
 use lib.ListN.{take, drop}
 use borrow.Author.Needs.{needs}
@@ -11,7 +11,7 @@ use Rattle.blocks.specs.Walk.{rawOf}
 use Rattle.rules.specs.Slim.{slimBy, wordsIn}
 use Rattle.cuts.specs.Cut.{HasRoom}
 use Rattle.cuts.proofs.WordWriting.{begin, finished, words-are, words-then, room-next}
-use Rattle.slims.proofs.CopyLaws.{Read, read-unlisted, read-listed, read-cuts, read-length}
+use Rattle.slims.proofs.CopyLaws.{Read, read-at, read-unlisted, read-listed, read-cuts, read-length}
 use Rattle.slims.proofs.put_part.Statement.{statement}
 use Rattle.slims.proofs.put_part.Tie as tie
 use Rattle.slims.proofs.put_part.Reads as reads
@@ -28,10 +28,8 @@ told : (f : lts.After-row-by (rest-reads.Asked, rest-reads.Learnt, front-reads.A
     → Read (wordsOf (f .before .before .before .before .before .args .file .now)) (f .before .before .before .before .before .args .start) (f .before .before .before .before .before .args .len)
     (wordsOf (f .before .front .result .now)) (f .row-by .result)
 told f =
-    record {
-      words = f .before .front .ensures .words ∙ ap (take (f .before .before .before .before .before .args .len)) (f .before .before .rest .ensures .words);
-      row-is = f .row-by .ensures;
-    }
+    let s = f .before .before .before .before .before .args in
+    read-at (wordsOf (s .file .now)) (s .start) (s .len) (f .before .before .rest .ensures) (f .before .front .ensures) (f .row-by .ensures)
 
 returns : tie.Need-returns
 returns c = words-are (finished (begin [] _)) (sym (read-unlisted (told (c .before .before)) (not-true _ (c .if1 .taken))))
