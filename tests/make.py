@@ -11,8 +11,10 @@ from pathlib import Path
 
 sys.dont_write_bytecode = True  # before the modules beside this one: a run writes its own files and no other
 
+from blocks import title
 from cases import checked_file_3, checked_file_8, checked_file_9, good_cases, hard_cases
 from pairs import data_of, pairs
+from sheets import answer, asks
 from two_faults import two_faults
 
 TESTS = Path(__file__).resolve().parent
@@ -59,20 +61,51 @@ def write_verdicts(files):
 
 
 def write_vectors():
-    """The title and the slim copy of each vector, or the line of its refusal, as its own files have them."""
+    """The title, the slim copy and the sheet of each vector, or the line of its refusal, as its own files have them."""
     stdin, stdout = bytearray(), bytearray()
     for name, data, line in vectors():
         files = TESTS / 'vectors' / name
         label, title = (files.with_suffix(end).read_bytes() for end in ('.label', '.title'))
-        slim = f'{line}\n'.encode('ascii') if line.startswith('refused') else files.with_suffix('.slim').read_bytes()
+        slim, sheet = (f'{line}\n'.encode('ascii') if line.startswith('refused') else files.with_suffix(end).read_bytes()
+                       for end in ('.slim', '.sheet'))
         stdin += pack(name.encode('ascii'), label, data)
-        stdout += name.encode('ascii') + b'\ntitle ' + title + b'\nslim ' + slim + b'\n'
+        stdout += name.encode('ascii') + b'\ntitle ' + title + b'\nslim ' + slim + b'\nsheet\n' + sheet
     write_run('vectors', stdin, stdout)
+
+
+def write_walks():
+    """The sheet of each accepted vector line by line, and from how many line numbers on it is given rightly: from each."""
+    stdin, stdout = bytearray(), bytearray()
+    for name, data, line in vectors():
+        if line.startswith('accepted'):
+            files = TESTS / 'vectors' / name
+            sheet = files.with_suffix('.sheet').read_bytes()
+            stdin += pack(name.encode('ascii'), files.with_suffix('.label').read_bytes(), data)
+            stdout += name.encode('ascii') + b'\n' + sheet + f'{len(sheet.splitlines()) + 1} rests\n'.encode('ascii')
+    write_run('sheet_walks', stdin, stdout)
+
+
+def write_asks():
+    """The largest sheets: an answer's numbers, the first 1,024 of the bytes that it counts, and that no other byte changed."""
+    stdin, stdout, before = bytearray(), bytearray(), None
+    for name, label, file, lines, n, room in asks():
+        data = b'' if file == before else data_of(file.words())
+        stdin += pack(name.encode('ascii'), label, data, n.to_bytes(4, 'little') + room.to_bytes(4, 'little'))
+        before = file
+        numbers, data = answer(lines, label, n, room)
+        stdout += f'{name}: {numbers}\n'.encode('ascii') + data[:1024] + b'the rest unchanged\n'
+    write_run('sheet_asks', stdin, stdout)
 
 
 def write_checked_files():
     """Document 01's files 3, 8 and 9. File 9 has a slim copy that is file 8."""
     file3, file8, file9 = (data_of(words) for words in (checked_file_3(), checked_file_8().words(), checked_file_9().words()))
+    sheet8 = b'unit=945\nnumber=1234\nversion=105\nname=BUFF1\nfunction=1\ntitle=Hall\n' \
+             b'ms,P1 RMS A,P3 PEAK Lin\n0,63.4,70.1\n1000,-0.5,69.8\n'
+    write_run('sheet', file8, sheet8)
+    write_run('sheet_refused', file3, b'refused 5 at 14\n')
+    write_run('sheet_label', data_of(checked_file_9().swap('03', title(b'\0\0')).words()),
+              sheet8.replace(b'Hall', b'Order 17, north end'))
     write_run('slim', file9, file8)
     write_run('slim_refused', file3, b'refused 5 at 14\n')
     write_run('title', file8, b'Hall')
@@ -119,6 +152,8 @@ def main():
              'hard cases': [row[1:] for row in hard], 'accepted': [row[1:] for row in good], 'vectors': list(vectors())}
     write_verdicts([file for files in kinds.values() for file in files])
     write_vectors()
+    write_walks()
+    write_asks()
     write_checked_files()
     write_table(ones, twos, hard, good, kinds)
 

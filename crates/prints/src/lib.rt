@@ -1,9 +1,10 @@
-// What the programs print of the answers of Title and Slim.
+// What the programs print of the answers of Title, Slim and Sheet.
 use libc::STDIN_FILENO;
 use libc::STDOUT_FILENO;
 use replies::put_refusal;
-use slims::Reply;
+use sheets::sheet;
 use slims::slim;
+use text::fit::Progress;
 use titles::title;
 
 pub fn print_refusal(num: u8, at: usize) -> bool {
@@ -17,8 +18,40 @@ pub fn print_slim(file: &[u8]) -> bool {
     // A slim copy is no longer than its file, and an accepted file has at most 65,536 bytes.
     let mut copy = [0u8; 65536];
     match slim(file, &mut copy) {
-        Reply::Written(n) => io::write_all(STDOUT_FILENO, &copy[0..n]),
-        Reply::Refused { num, at } => print_refusal(num, at),
+        slims::Reply::Written(n) => io::write_all(STDOUT_FILENO, &copy[0..n]),
+        slims::Reply::Refused { num, at } => print_refusal(num, at),
+    }
+}
+
+// Prints the lines of a file's sheet from line n on, as many as fit, or the line of its refusal. Answers how far it came;
+// finished where nothing more is to be printed.
+fn print_lines<'a>(file: &'a [u8], label: &'a [u8], n: u32, out: &mut [u8]) -> Progress {
+    match sheet(file, label, n, out) {
+        sheets::Reply::Written(p) => {
+            io::write_all(STDOUT_FILENO, &out[0..p.bytes]);
+            p
+        }
+        sheets::Reply::Refused { num, at } => {
+            print_refusal(num, at);
+            Progress {
+                lines: 0,
+                bytes: 0,
+                finished: true,
+            }
+        }
+    }
+}
+
+// Prints a file's whole sheet, or the line of its refusal.
+pub fn print_sheet<'a>(file: &'a [u8], label: &'a [u8]) -> bool {
+    let mut out = [0u8; 65536];
+    let mut n = 0;
+    loop {
+        let p = print_lines(file, label, n, &mut out);
+        if p.finished {
+            return true;
+        }
+        n += p.lines;
     }
 }
 
@@ -33,6 +66,15 @@ pub fn slim_of_input() -> bool {
     let mut file = [0u8; 65537];
     let size = io::read_full(STDIN_FILENO, &mut file);
     print_slim(&file[0..size])
+}
+
+// The program `sheet`: the sheet of the file on standard input, with the first argument as the label, or an empty one.
+pub fn sheet_of_input() {
+    let mut file = [0u8; 65537];
+    let size = io::read_full(STDIN_FILENO, &mut file);
+    let mut label = [0u8; 131072];
+    let n = os::arg(1, &mut label);
+    print_sheet(&file[0..size], &label[0..n]);
 }
 
 // The program `title`: the title of the file on standard input, with the first argument as the label, or an empty one.

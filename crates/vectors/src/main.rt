@@ -1,7 +1,8 @@
-// Prints what Title and Slim answer to each file of the pack on standard input, whose items are a name, a label and a file in
-// turn.
+// Prints what Title, Slim and Sheet answer to each file of the pack on standard input, whose items are a name, a label and a
+// file in turn.
 use libc::STDOUT_FILENO;
 use packs::read_item;
+use prints::print_sheet;
 use prints::print_slim;
 use prints::print_title;
 
@@ -11,7 +12,8 @@ fn print_answers<'a>(name: &[u8], label: &'a [u8], file: &'a [u8]) -> bool {
         && print_title(file, label)
         && io::write_all(STDOUT_FILENO, b"\nslim ")
         && print_slim(file)
-        && io::write_all(STDOUT_FILENO, b"\n")
+        && io::write_all(STDOUT_FILENO, b"\nsheet\n")
+        && print_sheet(file, label)
 }
 
 // Prints the answers to the pack's next file, and answers whether to go on: not at the pack's end.

@@ -1,0 +1,17 @@
+-- `line::put_counts` meets its contract. Assumes nothing.
+use borrow.Author.Needs.{needs}
+use Rattle.text.proofs.Writing.{_then_, text-is}
+use Rattle.lines.proofs.RowLaws.{three-fields}
+use Rattle.lines.proofs.line.put_counts.Statement.{statement}
+use Rattle.lines.proofs.line.put_counts.Tie as tie
+
+returns : tie.Need-returns
+returns c =
+    let c4 = c .before .before in
+    let c3 = c4 .before .before .before .before in
+    let c2 = c3 .before .before .before .before in
+    let c1 = c2 .before .before .before .before in
+    text-is (c1 .put-count .ensures then c2 .put-count2 .ensures then c3 .put-count3 .ensures then c4 .put-byte .ensures) (three-fields _ _ _)
+
+pub put-counts-spec : {M : Type 1} → statement M
+put-counts-spec = tie.close (tie.spec (λ c κs. search needs) (λ c. search needs) (λ c. search needs) (λ c. search needs) (λ c κs. search needs) (λ c. search needs) (λ c. search needs) (λ c. search needs) (λ c. search needs) (λ c κs. search needs) (λ c. search needs) (λ c. search needs) (λ c. search needs) (λ c. search needs) (λ c κs. search needs) (λ c. search needs) (λ c. search needs) returns)

@@ -1,0 +1,5 @@
+-- What the clauses of the crate cite. Assumes nothing.
+pub mod Line
+pub mod Names
+pub mod Lines
+pub mod Kinds

@@ -1,0 +1,108 @@
+// The names of filters, buffered levels and results. A code that has no name shows nothing; accepted files have none.
+use text::decimal::put_short;
+use text::put::put_byte;
+use text::put::put_bytes;
+ghost use mathlib.Core.List.{_++_};
+ghost use Prim.Native.Nat.{_≤_};
+ghost use lib.ListN.{length};
+ghost use Rattle.text.specs.Ascii.{ascii};
+ghost use Rattle.text.specs.Text.{Wrote};
+ghost use Rattle.lines.specs.Names.{named, profileFilters, bufferCodes, spectrumFilters, results};
+ghost use Rattle.lines.specs.Lines.{profileName, filterColumn};
+
+fn put_profile_filter(out: &mut [u8], code: u16) -> usize
+    requires { ⌜ 3 ≤ length (now out) ⌝ }
+    ensures { λ r. ⌜ Wrote (named profileFilters code) 3 (now (out .entry)) (now (out .exit)) r ⌝ }
+{
+    match code {
+        1 => put_bytes(out, b"Lin"),
+        2 => put_bytes(out, b"A"),
+        3 => put_bytes(out, b"C"),
+        4 => put_bytes(out, b"G"),
+        _ => 0,
+    }
+}
+
+fn put_buffer_code(out: &mut [u8], code: u16) -> usize
+    requires { ⌜ 4 ≤ length (now out) ⌝ }
+    ensures { λ r. ⌜ Wrote (named bufferCodes code) 4 (now (out .entry)) (now (out .exit)) r ⌝ }
+{
+    match code {
+        1 => put_bytes(out, b"PEAK"),
+        2 => put_bytes(out, b"MAX"),
+        3 => put_bytes(out, b"MIN"),
+        4 => put_bytes(out, b"RMS"),
+        _ => 0,
+    }
+}
+
+pub fn put_spectrum_filter(out: &mut [u8], code: u16) -> usize
+    requires { ⌜ 3 ≤ length (now out) ⌝ }
+    ensures { λ r. ⌜ Wrote (named spectrumFilters code) 3 (now (out .entry)) (now (out .exit)) r ⌝ }
+{
+    match code {
+        0 => put_bytes(out, b"HP"),
+        1 => put_bytes(out, b"LIN"),
+        2 => put_bytes(out, b"A"),
+        3 => put_bytes(out, b"C"),
+        _ => 0,
+    }
+}
+
+// The name of the result at an offset of a profile's record.
+pub fn put_result_name(out: &mut [u8], offset: u16) -> usize
+    requires { ⌜ 4 ≤ length (now out) ⌝ }
+    ensures { λ r. ⌜ Wrote (named results offset) 4 (now (out .entry)) (now (out .exit)) r ⌝ }
+{
+    match offset {
+        3 => put_bytes(out, b"PEAK"),
+        4 => put_bytes(out, b"MAX"),
+        5 => put_bytes(out, b"MIN"),
+        6 => put_bytes(out, b"SPL"),
+        7 => put_bytes(out, b"LEQ"),
+        8 => put_bytes(out, b"SEL"),
+        9 => put_bytes(out, b"Lex8"),
+        10 => put_bytes(out, b"Ltm3"),
+        11 => put_bytes(out, b"Ltm5"),
+        12 => put_bytes(out, b"N"),
+        13 => put_bytes(out, b"LN"),
+        _ => 0,
+    }
+}
+
+pub fn put_profile(out: &mut [u8], p: u16) -> usize
+    requires { ⌜ 10 ≤ length (now out) ⌝ }
+    ensures { λ r. ⌜ Wrote (profileName p) 10 (now (out .entry)) (now (out .exit)) r ⌝ }
+{
+    let a = put_byte(out, b'P');
+    a + put_short(&mut out[a..], p as u64)
+}
+
+pub fn put_filter_column(out: &mut [u8], p: u16, filter: u16) -> usize
+    requires { ⌜ 14 ≤ length (now out) ⌝ }
+    ensures { λ r. ⌜ Wrote (filterColumn p filter) 14 (now (out .entry)) (now (out .exit)) r ⌝ }
+{
+    let a = put_profile(out, p);
+    let b = a + put_byte(&mut out[a..], b' ');
+    b + put_profile_filter(&mut out[b..], filter)
+}
+
+// A profile, and what is buffered of it.
+fn put_buffered(out: &mut [u8], p: u16, code: u16) -> usize
+    requires { ⌜ 15 ≤ length (now out) ⌝ }
+    ensures { λ r. ⌜ Wrote (profileName p ++ ascii " " ++ named bufferCodes code) 15 (now (out .entry)) (now (out .exit)) r ⌝ }
+{
+    let a = put_profile(out, p);
+    let b = a + put_byte(&mut out[a..], b' ');
+    b + put_buffer_code(&mut out[b..], code)
+}
+
+// The same, and its filter.
+pub fn put_buffer_column(out: &mut [u8], p: u16, code: u16, filter: u16) -> usize
+    requires { ⌜ 19 ≤ length (now out) ⌝ }
+    ensures { λ r. ⌜ Wrote (profileName p ++ ascii " " ++ named bufferCodes code ++ ascii " " ++ named profileFilters filter) 19 (now (out .entry)) (now (out .exit)) r ⌝ }
+{
+    let a = put_buffered(out, p, code);
+    let b = a + put_byte(&mut out[a..], b' ');
+    b + put_profile_filter(&mut out[b..], filter)
+}

@@ -1,0 +1,65 @@
+// The same lines where they fit. Where any line fits it is written at its place; near the end of the output, where its length
+// decides, it is made in a row of its own and copied.
+use crate::line::Line;
+use crate::line::put_entry;
+use crate::line::put_line;
+use crate::line::put_record;
+use crate::line::put_result;
+use text::fit::Tried;
+use text::fit::try_line;
+ghost use Prim.Native.Nat.{_+_, _≤_, _<_};
+ghost use lib.ListN.{length};
+ghost use Rattle.words.specs.Words.{wordsOf};
+ghost use Rattle.text.specs.Fit.{TriedTo};
+ghost use Rattle.lines.specs.Line.{bytes};
+ghost use Rattle.lines.specs.Names.{named, results};
+ghost use Rattle.lines.specs.Lines.{textEntry, resultRow, recordRow};
+ghost use Rattle.lines.specs.Kinds.{lineOf, Brief, cells};
+
+pub fn fit_line(out: &mut [u8], line: Line) -> Tried
+    requires { ⌜ Brief line ⌝ }
+    ensures { λ r. ⌜ TriedTo (bytes (lineOf line)) (now (out .entry)) (now (out .exit)) r ⌝ }
+{
+    if 1024 <= out.len() {
+        return Tried::Put(put_line(out, line));
+    }
+    let mut row = [0u8; 1024];
+    let n = put_line(&mut row, line);
+    try_line(out, &row[0..n])
+}
+
+pub fn fit_entry(out: &mut [u8], key: &[u8], text: &[u8]) -> Tried
+    requires { ⌜ length (now key) + length (now text) ≤ 1000 ⌝ }
+    ensures { λ r. ⌜ TriedTo (bytes (textEntry (now (key .entry)) (now (text .entry)))) (now (out .entry)) (now (out .exit)) r ⌝ }
+{
+    if 1024 <= out.len() {
+        return Tried::Put(put_entry(out, key, text));
+    }
+    let mut row = [0u8; 1024];
+    let n = put_entry(&mut row, key, text);
+    try_line(out, &row[0..n])
+}
+
+pub fn fit_result(out: &mut [u8], table: [[u16; 11]; 3], i: usize) -> Tried
+    requires { ⌜ i < 11 ⌝ }
+    ensures { λ r. ⌜ TriedTo (bytes (resultRow (named results (3 + i)) (cells table i))) (now (out .entry)) (now (out .exit)) r ⌝ }
+{
+    if 1024 <= out.len() {
+        return Tried::Put(put_result(out, table, i));
+    }
+    let mut row = [0u8; 1024];
+    let n = put_result(&mut row, table, i);
+    try_line(out, &row[0..n])
+}
+
+pub fn fit_record(out: &mut [u8], time: u64, words: &[u8]) -> Tried
+    requires { ⌜ length (wordsOf (now words)) ≤ 51 ⌝ }
+    ensures { λ r. ⌜ TriedTo (bytes (recordRow time (wordsOf (now (words .entry))))) (now (out .entry)) (now (out .exit)) r ⌝ }
+{
+    if 1024 <= out.len() {
+        return Tried::Put(put_record(out, time, words));
+    }
+    let mut row = [0u8; 1024];
+    let n = put_record(&mut row, time, words);
+    try_line(out, &row[0..n])
+}

@@ -1,0 +1,2 @@
+-- The laws of rows. Assumes nothing.
+pub mod RowLaws

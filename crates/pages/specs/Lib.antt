@@ -1,0 +1,3 @@
+-- The definition of the sheet. Assumes nothing.
+pub mod Rows
+pub mod Sheet

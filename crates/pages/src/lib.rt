@@ -1,0 +1,1 @@
+// The definition of the sheet stands in specs/: there is no code here.

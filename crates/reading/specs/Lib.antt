@@ -1,0 +1,2 @@
+-- What the laws of the crate cite. Assumes nothing.
+pub mod Known

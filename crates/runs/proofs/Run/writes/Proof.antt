@@ -1,0 +1,15 @@
+-- `Run::writes` meets its contract. Assumes nothing.
+use Rattle.runs.specs.Run.{writesNext}
+use Rattle.runs.proofs.Run.writes.Statement.{statement}
+use Rattle.runs.proofs.Run.writes.Tie as tie
+
+returns : tie.Need-returns
+unfolding writesNext
+returns c = rw (c .before .if1 .taken)
+
+returns-2 : tie.Need-returns-2
+unfolding writesNext
+returns-2 c = rw (c .if1 .left)
+
+pub writes-spec : {M : Type 1} → statement M
+writes-spec = tie.close (tie.spec returns returns-2)

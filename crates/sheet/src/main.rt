@@ -1,0 +1,6 @@
+// Prints the sheet of the file on standard input, with the argument as the label, or the refusal.
+use prints::sheet_of_input;
+
+fn main() {
+    sheet_of_input();
+}

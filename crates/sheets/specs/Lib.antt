@@ -1,0 +1,3 @@
+-- What the clauses of the crate cite. Assumes nothing.
+pub mod Reply
+pub mod Asked
