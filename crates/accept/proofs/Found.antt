@@ -165,7 +165,7 @@ record Noted (place : ℕ) : Type 0 where
   notes : (st : Starts) (q at : ℕ) → startOf place (noted st q at) ≡ cond (eqb q place) at (startOf place st)
   none : startOf place noStarts ≡ absent
 
-abbrev Each : (ℕ → Type 0) → List ℕ → Type 0
+abbrev pub Each : (ℕ → Type 0) → List ℕ → Type 0
 Each P [] = Unit {0}
 Each P (p ∷ ps) = P p × Each P ps
 
@@ -177,7 +177,8 @@ unfoldable pub isIn : ℕ → List ℕ → Bool
 isIn n [] = false
 isIn n (p ∷ ps) = eqb n p || isIn n ps
 
-each-at : (P : ℕ → Type 0) (ps : List ℕ) → Each P ps → (n : ℕ) → isIn n ps ≡ true → P n
+-- what holds of each number of a list holds of one that is in it
+pub each-at : (P : ℕ → Type 0) (ps : List ℕ) → Each P ps → (n : ℕ) → isIn n ps ≡ true → P n
 unfolding isIn
 each-at P [] a n e = absurd (false≢true e)
 each-at P (p ∷ ps) a n e = go (eqb n p) refl e (each-at P ps (a .1) n)

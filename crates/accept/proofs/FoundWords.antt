@@ -25,7 +25,7 @@ use Rattle.accept.proofs.Found.{There, Found, there, nowhere}
 use Rattle.accept.proofs.Seen.{no-denied}
 
 -- no block starts behind the last word
-none-at : (ws : List ℕ) (at : ℕ) → length ws ≤ at → blockAt ws at ≡ []
+pub none-at : (ws : List ℕ) (at : ℕ) → length ws ≤ at → blockAt ws at ≡ []
 unfolding blockAt frontOf fronted
 none-at ws at h = rw (drop-of-length-le ws {i = at} h, blockAt)
 

@@ -1,8 +1,11 @@
 -- The definitions give document 01's answers to each of its closed files. Assumes nothing.
-use mathlib.Core.List.{map, flatten, flatMap}
-use mathlib.Core.Path.{_≡_, refl}
+use mathlib.Core.List.{flatten, flatMap}
+use mathlib.Core.Path.{refl}
 use Rattle.words.specs.Words.{wordsOf, bytesOf, longAt}
+use Rattle.text.specs.Decimal.{digits, decimal}
+use Rattle.text.specs.Fit.{fit, joined}
 use Rattle.text.specs.Text.{beforeNull}
+use Rattle.units.specs.Level.{signed, level, fixed, signedFixed, tenths}
 use Rattle.blocks.specs.Walk.{longForm, fronted, frontOf, rawOf, walk, walked, partsOf}
 use Rattle.rules.specs.Block.{then, behind, allows, obeyed, ruled, rulesIn, recorded, records, sized, nulled, readable, wholeRecords, buffered, kept}
 use Rattle.rules.specs.Slim.{counted, cutTo, textOf, cutText, slimRecords, headBy, slimBy, wordsIn, wordIn, subWordIn}
@@ -14,8 +17,43 @@ use Rattle.accept.specs.Check.{recordOf, answered, verdict, values}
 use Rattle.accept.specs.Slims.{slimPart, slims, slimsIn, slimFrom, slimAt}
 use Rattle.titles.specs.Title.{titleText, textAt, titleIn, titleAt}
 use Rattle.slims.specs.Copy.{slimWords, slimCopy, roomFor, replied, slimReply, outputBy}
-use Rattle.cases.specs.Cases.{Case, asDefined, refused, block01, block02, block03, block04, profile, block05, block0F, contents, bufferFile, accepted, cases}
+use Rattle.reading.specs.Known.{setupIn}
+use Rattle.lines.specs.Line.{further, separated, bytes}
+use Rattle.lines.specs.Names.{named, profileFilters, bufferCodes}
+use Rattle.lines.specs.Lines.{numbersFrom, levelField, profileName, numberEntry, textEntry, bufferColumn, bandColumns, bufferHeading, recordRow}
+use Rattle.pages.specs.Rows.{recordCount, recordRows, texts}
+use Rattle.pages.specs.Sheet.{whereThere, threeIn, filtersIn, codesIn, nameIn, titleShown, headLines, resultLines, spectrumLines, statisticsLines, stepIn, widthIn, bufferLines, sheetLines, sheetTexts}
+use Rattle.sheets.specs.Reply.{progressIn, askedFor, sheetReply}
+use Rattle.sheets.specs.Reply as Sheet
+use Rattle.cases.specs.Cases.{AllSaid, refused, block01, block02, block03, block04, profile, block05, block0F, contents, bufferFile, nineLines, accepted, cases}
 
-pub cases-hold : map (λ (c : Case). asDefined (c .file)) cases ≡ cases
-unfolding cases asDefined refused accepted bufferFile block01 block02 block03 block04 profile block05 block0F contents wordsOf bytesOf longAt beforeNull longForm fronted frontOf rawOf walk walked partsOf then behind allows obeyed ruled rulesIn recorded records sized nulled readable wholeRecords buffered kept counted cutTo textOf cutText slimRecords headBy slimBy wordsIn wordIn subWordIn rowOf slimOf bandsOf levelsOf idIn learnt rowFor keyOf isDue passedOver dueAfter placeOf noted skipped entered enteredBy testedBy judgedBy seenBy seenIn closed judge misfit surveyed recordOf answered verdict values slimPart slims slimsIn slimFrom slimAt titleText textAt titleIn titleAt slimWords slimCopy roomFor replied slimReply outputBy flatten flatMap
-cases-hold = refl
+pub cases-hold : AllSaid cases
+unfolding cases refused accepted bufferFile block01 block02 block03 block04 profile block05 block0F contents wordsOf bytesOf longAt beforeNull longForm fronted frontOf rawOf walk walked partsOf then behind allows obeyed ruled rulesIn recorded records sized nulled readable wholeRecords buffered kept counted cutTo textOf cutText slimRecords headBy slimBy wordsIn wordIn subWordIn rowOf slimOf bandsOf levelsOf idIn learnt rowFor keyOf isDue passedOver dueAfter placeOf noted skipped entered enteredBy testedBy judgedBy seenBy seenIn closed judge misfit surveyed recordOf answered verdict values slimPart slims slimsIn slimFrom slimAt titleText textAt titleIn titleAt slimWords slimCopy roomFor replied slimReply outputBy flatten flatMap nineLines digits decimal fit joined signed level fixed signedFixed tenths setupIn further separated bytes named profileFilters bufferCodes numbersFrom levelField profileName numberEntry textEntry bufferColumn bandColumns bufferHeading recordRow recordCount recordRows texts whereThere threeIn filtersIn codesIn nameIn titleShown headLines resultLines spectrumLines statisticsLines stepIn widthIn bufferLines sheetLines sheetTexts progressIn askedFor sheetReply Sheet.replied Sheet.outputBy
+cases-hold = (
+  record { words-are = refl; values-are = refl; title-is = refl; slim-is = refl; slim-has = refl; sheet-is = refl },
+  (
+    record { words-are = refl; values-are = refl; title-is = refl; slim-is = refl; slim-has = refl; sheet-is = refl },
+    (
+      record { words-are = refl; values-are = refl; title-is = refl; slim-is = refl; slim-has = refl; sheet-is = refl },
+      (
+        record { words-are = refl; values-are = refl; title-is = refl; slim-is = refl; slim-has = refl; sheet-is = refl },
+        (
+          record { words-are = refl; values-are = refl; title-is = refl; slim-is = refl; slim-has = refl; sheet-is = refl },
+          (
+            record { words-are = refl; values-are = refl; title-is = refl; slim-is = refl; slim-has = refl; sheet-is = refl },
+            (
+              record { words-are = refl; values-are = refl; title-is = refl; slim-is = refl; slim-has = refl; sheet-is = refl },
+              (
+                record { words-are = refl; values-are = refl; title-is = refl; slim-is = refl; slim-has = refl; sheet-is = refl },
+                (
+                  record { words-are = refl; values-are = refl; title-is = refl; slim-is = refl; slim-has = refl; sheet-is = refl },
+                  tt,
+                ),
+              ),
+            ),
+          ),
+        ),
+      ),
+    ),
+  ),
+)

@@ -1,8 +1,10 @@
 -- Checked files 1 to 4, 8 and 9 of document 01, beside what the calls answer to each. Assumes nothing.
 use mathlib.Core.List.{List, [], _∷_, _++_}
+use mathlib.Core.Path.{_≡_}
 use Prim.Native.Nat.{ℕ}
 use lib.ListN.{length, replicate}
 use Rattle.words.specs.Words.{wordsOf, bytesOf}
+use Rattle.text.specs.Ascii.{ascii}
 use Rattle.blocks.specs.Walk.{endMarker}
 use Rattle.accept.specs.Judge.{absent}
 use Rattle.accept.specs.Check.{verdict, values}
@@ -10,9 +12,12 @@ use Rattle.titles.specs.declared.TitleAt.{TitleAt}
 use Rattle.titles.specs.declared.TitleAt.the-variants.{Text, Label}
 use Rattle.titles.specs.Title.{titleAt}
 use Rattle.slims.specs.Copy.{slimCopy, slimReply, outputBy}
+use Rattle.pages.specs.Sheet.{sheetTexts}
+use Rattle.sheets.specs.Reply.{sheetReply}
+use Rattle.sheets.specs.Reply as Sheet
 
 -- a file's bytes and how many words they are; the numbers of Check's answer; where Title finds the title; the words of the slim
--- copy and how many they are, none of a refused file
+-- copy and how many they are, and the text of the sheet with an empty label, none of a refused file
 pub record Case : Type 0 where
   pub file : List ℕ
   pub words : ℕ
@@ -20,23 +25,25 @@ pub record Case : Type 0 where
   pub title : TitleAt
   pub slim : List ℕ
   pub slim-words : ℕ
+  pub sheet : List ℕ
 
--- what the definitions give for a file, where Slim has all the room it needs
-unfoldable pub asDefined : List ℕ → Case
-asDefined file =
-    record {
-      file = file;
-      words = length (wordsOf file);
-      values = values (verdict file);
-      title = titleAt file;
-      slim = wordsOf (outputBy (slimCopy file) [] (slimReply file 65536));
-      slim-words = length (wordsOf (outputBy (slimCopy file) [] (slimReply file 65536)));
-    }
+-- what is said of a file is what the definitions give, where Slim and Sheet have all the room they need
+pub record Said (c : Case) : Type 0 where
+  pub words-are : length (wordsOf (c .file)) ≡ c .words
+  pub values-are : values (verdict (c .file)) ≡ c .values
+  pub title-is : titleAt (c .file) ≡ c .title
+  pub slim-is : wordsOf (outputBy (slimCopy (c .file)) [] (slimReply (c .file) 65536)) ≡ c .slim
+  pub slim-has : length (wordsOf (outputBy (slimCopy (c .file)) [] (slimReply (c .file) 65536))) ≡ c .slim-words
+  pub sheet-is : Sheet.outputBy (sheetTexts (c .file) []) [] (sheetReply (c .file) [] 0 65536) ≡ c .sheet
+
+abbrev pub AllSaid : List Case → Type 0
+AllSaid [] = Unit {0}
+AllSaid (c ∷ cs) = Said c × AllSaid cs
 
 -- a refused file of n words, by number and position
 unfoldable pub refused : List ℕ → ℕ → ℕ → ℕ → Case
 refused file n num at =
-    record { file = file; words = n; values = num ∷ (at ∷ []); title = Label; slim = []; slim-words = 0 }
+    record { file = file; words = n; values = num ∷ (at ∷ []); title = Label; slim = []; slim-words = 0; sheet = [] }
 
 -- ---- the blocks of file 8: "All blocks of least length, .. unstated words 0"
 
@@ -76,8 +83,22 @@ contents = 634 ∷ (701 ∷ (0xFFFB ∷ (698 ∷ [])))
 unfoldable pub bufferFile : List ℕ → List ℕ
 bufferFile more = block01 ++ (block02 ++ (block03 ++ (block04 ++ (block05 ++ (more ++ (block0F ++ (contents ++ (endMarker ∷ []))))))))
 
+-- "given it on standard input with an empty label, prints"
+unfoldable pub nineLines : List ℕ
+nineLines =
+    ascii "unit=945\n"
+    ++ ascii "number=1234\n"
+    ++ ascii "version=105\n"
+    ++ ascii "name=BUFF1\n"
+    ++ ascii "function=1\n"
+    ++ ascii "title=Hall\n"
+    ++ ascii "ms,P1 RMS A,P3 PEAK Lin\n"
+    ++ ascii "0,63.4,70.1\n"
+    ++ ascii "1000,-0.5,69.8\n"
+
 -- such a file of n words, whose 0F starts at word `at`, is accepted: 0, the function, and the starts of 01, 02, 03, 04, 05, 07,
--- spectrum, 09 and 0F. Its title is the four bytes behind the first word of 03, its slim copy the file with no such blocks
+-- spectrum, 09 and 0F. Its title is the four bytes behind the first word of 03, its slim copy the file with no such blocks, and its
+-- sheet the nine lines
 unfoldable pub accepted : List ℕ → ℕ → ℕ → Case
 accepted more n at =
     record {
@@ -87,6 +108,7 @@ accepted more n at =
       title = Text 38 4;
       slim = bufferFile [];
       slim-words = 78;
+      sheet = nineLines;
     }
 
 unfoldable pub cases : List Case

@@ -19,8 +19,7 @@ use Rattle.accept.specs.declared.judge.Judged.the-variants.{Passed}
 use Rattle.accept.specs.Judge.{surveyed}
 use Rattle.accept.specs.Slims.{slimsIn, slimAt, places, startOf, blockAt, rawAt}
 use Rattle.accept.proofs.Found.{Found, there, nowhere, isIn, block-at, found}
-use Rattle.accept.proofs.FoundWords.{accepted-few}
-use Rattle.reading.proofs.Places.{none-at}
+use Rattle.accept.proofs.FoundWords.{none-at, accepted-few}
 use Rattle.reading.proofs.ReadLaws.{read-word, read-record, spectrum-id, spectrum-third, spectrum-octave, read-contents, read-counts}
 use Rattle.pages.specs.Sheet.{bandsIn}
 

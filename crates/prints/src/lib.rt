@@ -6,6 +6,9 @@ use sheets::sheet;
 use slims::slim;
 use text::fit::Progress;
 use titles::title;
+ghost use mathlib.Core.Bool.{false};
+ghost use mathlib.Core.Path.{_≡_};
+ghost use Prim.Native.Nat.{_+_, _≤_, _<_};
 
 pub fn print_refusal(num: u8, at: usize) -> bool {
     let mut line = [0u8; 42];
@@ -25,10 +28,13 @@ pub fn print_slim(file: &[u8]) -> bool {
 
 // Prints the lines of a file's sheet from line n on, as many as fit, or the line of its refusal. Answers how far it came;
 // finished where nothing more is to be printed.
-fn print_lines<'a>(file: &'a [u8], label: &'a [u8], n: u32, out: &mut [u8]) -> Progress {
+fn print_lines<'a>(file: &'a [u8], label: &'a [u8], n: u32, out: &mut [u8]) -> Progress
+    ensures { λ r. ⌜ (n + r .lines < 4294967296) × (r .finished ≡ false → 1 ≤ r .lines) ⌝ }
+{
     match sheet(file, label, n, out) {
         sheets::Reply::Written(p) => {
-            io::write_all(STDOUT_FILENO, &out[0..p.bytes]);
+            let size = p.bytes;
+            io::write_all(STDOUT_FILENO, &out[0..size]);
             p
         }
         sheets::Reply::Refused { num, at } => {
@@ -42,17 +48,22 @@ fn print_lines<'a>(file: &'a [u8], label: &'a [u8], n: u32, out: &mut [u8]) -> P
     }
 }
 
-// Prints a file's whole sheet, or the line of its refusal.
-pub fn print_sheet<'a>(file: &'a [u8], label: &'a [u8]) -> bool {
-    let mut out = [0u8; 65536];
+// All lines, by way of a row for as many as fit.
+fn print_all<'a>(file: &'a [u8], label: &'a [u8], out: &mut [u8]) -> bool {
     let mut n = 0;
     loop {
-        let p = print_lines(file, label, n, &mut out);
+        let p = print_lines(file, label, n, out);
         if p.finished {
             return true;
         }
         n += p.lines;
     }
+}
+
+// Prints a file's whole sheet, or the line of its refusal.
+pub fn print_sheet<'a>(file: &'a [u8], label: &'a [u8]) -> bool {
+    let mut out = [0u8; 65536];
+    print_all(file, label, &mut out)
 }
 
 // Prints what Title hands back.

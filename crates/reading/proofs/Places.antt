@@ -2,24 +2,20 @@
 use mathlib.Core.Bool.{Bool, true, false, cond}
 use mathlib.Core.List.{List, []}
 use mathlib.Core.Path.{_≡_, refl}
-use Prim.Native.Nat.{ℕ, _≤_}
+use Prim.Native.Nat.{ℕ}
 use native.Mathlib.Omega.{arith}
 use lib.Dec.{ltb}
-use lib.ListN.{length, take, drop, drop-of-length-le}
+use lib.ListN.{length, take, drop}
 use borrow.Author.Tests.{ltb-true}
 use Rattle.blocks.specs.declared.Cursor.{Cursor}
 use Rattle.blocks.specs.declared.Stop.{Stop}
 use Rattle.blocks.specs.declared.Stop.the-variants.{Refused}
 use Rattle.blocks.specs.declared.Step.the-variants.{Block, Over}
-use Rattle.blocks.specs.Walk.{Front, broken, ended, cut, fronted, frontOf, stepped, stepAt}
+use Rattle.blocks.specs.Walk.{Front, broken, ended, cut, frontOf, stepped, stepAt}
 use Rattle.blocks.proofs.Steps.{step-block}
 use Rattle.accept.specs.Slims.{blockAt}
 use Rattle.accept.proofs.Found.{block-at}
-
--- no block starts behind the last word
-pub none-at : (ws : List ℕ) (at : ℕ) → length ws ≤ at → blockAt ws at ≡ []
-unfolding blockAt frontOf fronted
-none-at ws at h = rw (drop-of-length-le ws {i = at} h, blockAt)
+use Rattle.accept.proofs.FoundWords.{none-at}
 
 -- where the walk is over, no block starts
 pub over-none : (ws : List ℕ) (c : Cursor) (stop : Stop) → stepAt ws c ≡ Over stop → blockAt ws (c .at) ≡ []

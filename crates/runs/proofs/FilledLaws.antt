@@ -19,7 +19,7 @@ use Rattle.text.proofs.Writing.{_then_, text-is, bounded, rest-length}
 
 -- ---- how many fit
 
-fit-le : (room : ℕ) (xs : List (List ℕ)) → fit room xs ≤ length xs
+pub fit-le : (room : ℕ) (xs : List (List ℕ)) → fit room xs ≤ length xs
 unfolding fit
 fit-le room [] = zero-le
 fit-le room (l ∷ xs) = go (leb (length l) room) (fit-le (room - length l) xs)

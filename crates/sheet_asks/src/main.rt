@@ -1,6 +1,7 @@
 // Asks Sheet what the items of the pack on standard input say: a name, a label, a file (an empty one stands for the file
-// before it), and eight bytes, a line number and the size of the output, both low byte first. Prints the answer, the first 1,024 of the bytes that it counts, and whether all
-// others of a row of 66,000 bytes, of which the output is the front, are as they were.
+// before it), and eight bytes, a line number and the size of the output, both low byte first. Prints the answer, the first
+// 1,024 of the bytes that it counts, and whether all others of a row of 66,000 bytes, of which the output is the front, are
+// as they were.
 use libc::STDOUT_FILENO;
 use packs::read_item;
 use prints::print_refusal;
@@ -53,37 +54,46 @@ fn print_row(row: &[u8], size: usize) -> bool {
     if row.len() < size {
         return false;
     }
-    let shown = if size < 1024 { size } else { 1024 };
-    if row.len() < shown {
-        return false;
+    if size < 1024 {
+        io::write_all(STDOUT_FILENO, &row[0..size]);
+    } else {
+        io::write_all(STDOUT_FILENO, &row[0..1024]);
     }
-    io::write_all(STDOUT_FILENO, &row[0..shown]);
     if is_untouched(&row[size..]) {
         return io::write_all(STDOUT_FILENO, b"the rest unchanged\n");
     }
     io::write_all(STDOUT_FILENO, b"the rest changed\n")
 }
 
-fn print_answer<'a>(file: &'a [u8], label: &'a [u8], numbers: &[u8]) -> bool {
-    let mut row = [0xEEu8; 66000];
+// Prints what Sheet answers where the output is the front of the row.
+fn print_answer<'a>(file: &'a [u8], label: &'a [u8], numbers: &[u8], row: &mut [u8]) -> bool {
     let room = long(numbers, 2) as usize;
-    if 66000 < room {
+    if row.len() < room {
         return false;
     }
     let reply = sheet(file, label, long(numbers, 0), &mut row[0..room]);
     let size = print_reply(reply);
-    print_row(&row, size)
+    print_row(row, size)
 }
 
-// The next question of the pack, after one on a file of `before` bytes. Answers the size of its file, and 0 at the end.
+// Reads the next file to the front of the row and answers its size; an empty one stands for the file of `last` bytes there.
+fn read_file(file: &mut [u8], last: usize) -> usize
+    requires { ⌜ last ≤ length (now file) ⌝ }
+    ensures { λ r. ⌜ r ≤ length (now (file .exit)) ⌝ }
+{
+    let size = read_item(file);
+    if size == 0 { last } else { size }
+}
+
+// The next question of the pack, after one on a file of `last` bytes. Answers the size of its file, and 0 at the end.
 fn print_next(
     name: &mut [u8],
     label: &mut [u8],
     file: &mut [u8],
     numbers: &mut [u8],
-    before: usize,
+    last: usize,
 ) -> usize
-    requires { ⌜ before ≤ length (now file) ⌝ }
+    requires { ⌜ last ≤ length (now file) ⌝ }
     ensures { λ r. ⌜ r ≤ length (now (file .exit)) ⌝ }
 {
     let a = read_item(name);
@@ -91,13 +101,13 @@ fn print_next(
         return 0;
     }
     let b = read_item(label);
-    let c = read_item(file);
+    let c = read_file(file, last);
     let d = read_item(numbers);
-    let size = if c == 0 { before } else { c };
     io::write_all(STDOUT_FILENO, &name[0..a]);
     io::write_all(STDOUT_FILENO, b": ");
-    print_answer(&file[0..size], &label[0..b], &numbers[0..d]);
-    size
+    let mut row = [0xEEu8; 66000];
+    print_answer(&file[0..c], &label[0..b], &numbers[0..d], &mut row);
+    c
 }
 
 fn main() {

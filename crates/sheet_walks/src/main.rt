@@ -6,15 +6,17 @@ use libc::STDOUT_FILENO;
 use packs::read_item;
 use sheets::Reply;
 use sheets::sheet;
+use text::fit::Progress;
 ghost use Prim.Native.Nat.{_≤_};
 ghost use lib.ListN.{length};
 
-// How many bytes the first line of a text has, its end included.
-fn line_length(text: &[u8]) -> usize
-    ensures { λ r. ⌜ r ≤ length (now (text .entry)) ⌝ }
+// How many bytes the first line has of a text that is the first `size` bytes of the row, its end included.
+fn line_length(row: &[u8], size: usize) -> usize
+    requires { ⌜ size ≤ length (now row) ⌝ }
+    ensures { λ r. ⌜ r ≤ length (now (row .entry)) ⌝ }
 {
-    let end = find(text, 0, text.len(), b'\n');
-    if end < text.len() { end + 1 } else { end }
+    let end = find(row, 0, size, b'\n');
+    if end < size { end + 1 } else { end }
 }
 
 fn is_same(a: &[u8], b: &[u8]) -> bool {
@@ -31,43 +33,62 @@ fn is_same(a: &[u8], b: &[u8]) -> bool {
     true
 }
 
+// Writes the lines from line n on, as many as fit; none where the file is refused.
+fn lines_from<'a>(file: &'a [u8], label: &'a [u8], n: u32, out: &mut [u8]) -> Progress
+    ensures { λ r. ⌜ r .bytes ≤ length (now (out .exit)) ⌝ }
+{
+    match sheet(file, label, n, out) {
+        Reply::Written(p) => p,
+        Reply::Refused { .. } => Progress {
+            lines: 0,
+            bytes: 0,
+            finished: false,
+        },
+    }
+}
+
 // The text from line n on, in the front of the output; its length. Nothing where that is not all of the rest.
 fn rest_from<'a>(file: &'a [u8], label: &'a [u8], n: u32, out: &mut [u8]) -> usize
     ensures { λ r. ⌜ r ≤ length (now (out .exit)) ⌝ }
 {
-    match sheet(file, label, n, out) {
-        Reply::Written(p) => if p.finished { p.bytes } else { 0 },
-        Reply::Refused { .. } => 0,
-    }
+    let p = lines_from(file, label, n, out);
+    if p.finished { p.bytes } else { 0 }
 }
 
-// Line n, in the front of an output of 1,024 bytes; its length.
-fn line_at<'a>(file: &'a [u8], label: &'a [u8], n: u32, out: &mut [u8]) -> usize
-    ensures { λ r. ⌜ r ≤ length (now (out .exit)) ⌝ }
+// 1 where the lines from line n on are the text `whole` from `at` on, else 0.
+fn count_right<'a>(file: &'a [u8], label: &'a [u8], n: u32, whole: &[u8], at: usize) -> u32
+    ensures { λ r. ⌜ r ≤ 1 ⌝ }
 {
-    match sheet(file, label, n, out) {
-        Reply::Written(p) => line_length(&out[0..p.bytes]),
-        Reply::Refused { .. } => 0,
+    let mut out = [0u8; 65536];
+    let size = rest_from(file, label, n, &mut out);
+    if at <= whole.len() && is_same(&out[0..size], &whole[at..]) {
+        return 1;
     }
+    0
+}
+
+// Prints line n, the first that an output of 1,024 bytes gets; its length.
+fn print_line<'a>(file: &'a [u8], label: &'a [u8], n: u32) -> usize
+    ensures { λ r. ⌜ r ≤ 1024 ⌝ }
+{
+    let mut row = [0u8; 1024];
+    let p = lines_from(file, label, n, &mut row);
+    let length = line_length(&row, p.bytes);
+    io::write_all(STDOUT_FILENO, &row[0..length]);
+    length
 }
 
 // Prints a sheet, which is the text `whole`, line by line, and answers from how many line numbers on the rest is right.
 fn print_walk<'a>(file: &'a [u8], label: &'a [u8], whole: &[u8]) -> u32 {
-    let mut row = [0u8; 1024];
-    let mut out = [0u8; 65536];
     let mut at = 0;
     let mut n = 0u32;
     let mut right = 0u32;
     while n < 1000000 {
-        let size = rest_from(file, label, n, &mut out);
-        if at <= whole.len() && is_same(&out[0..size], &whole[at..]) {
-            right += 1;
-        }
-        let length = line_at(file, label, n, &mut row);
+        right += count_right(file, label, n, whole, at);
+        let length = print_line(file, label, n);
         if length == 0 {
             return right;
         }
-        io::write_all(STDOUT_FILENO, &row[0..length]);
         at += length;
         n += 1;
     }

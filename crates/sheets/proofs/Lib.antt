@@ -2,3 +2,4 @@
 pub mod Tables
 pub mod SectionLaws
 pub mod ReplyLaws
+pub mod WrittenLaws

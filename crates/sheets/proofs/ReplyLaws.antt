@@ -8,8 +8,7 @@ use borrow.Author.Tests.{lt-ltb, le-ltb}
 use lib.Dec.{eqb}
 use lib.ListN.{length, take, drop, length-drop}
 use Rattle.text.specs.declared.fit.Progress.{Progress}
-use Rattle.text.specs.Fit.{fit, joined, Filled}
-use Rattle.text.specs.Text.{over}
+use Rattle.text.specs.Fit.{joined, Filled}
 use Rattle.accept.specs.declared.judge.State.{State}
 use Rattle.accept.specs.declared.judge.Judged.the-variants.{Passed, Denied}
 use Rattle.accept.specs.Judge.{surveyed}
@@ -40,12 +39,12 @@ all-texts file label =
     let d = statisticsLines xs in
     let e = bufferLines xs in
     sym (
-      texts-append (a ++ b ++ c ++ d) e
-      ∙ ap (λ (l : List (List ℕ)). l ++ texts e)
-      (
-        texts-append (a ++ b ++ c) d
-        ∙ ap (λ (l : List (List ℕ)). l ++ texts d) (texts-append (a ++ b) c ∙ ap (λ (l : List (List ℕ)). l ++ texts c) (texts-append a b))
-      )
+    texts-append (a ++ b ++ c ++ d) e
+    ∙ ap (λ (l : List (List ℕ)). l ++ texts e)
+    (
+    texts-append (a ++ b ++ c) d
+    ∙ ap (λ (l : List (List ℕ)). l ++ texts d) (texts-append (a ++ b) c ∙ ap (λ (l : List (List ℕ)). l ++ texts c) (texts-append a b))
+    )
     )
 
 module _ (file label : List ℕ) (n : ℕ) {d e : List ℕ} where
@@ -68,8 +67,10 @@ same-progress {p} {l} x y z = ap (λ k. record { lines = k; bytes = p .bytes; fi
 
 filled-is : {ls : List (List ℕ)} {d e : List ℕ} {p : Progress} → Filled ls d e p → p ≡ progressIn (length d) ls
 unfolding progressIn
-filled-is {ls} f =
-    same-progress (f .most) (f .wrote .counted ∙ ap (λ (k : ℕ). length (joined (take k ls))) (f .most)) (f .finished ∙ ap (λ (k : ℕ). eqb k (length ls)) (f .most))
+filled-is {ls} {d} {p = p} f =
+    let bytes : p .bytes ≡ progressIn (length d) ls .bytes = f .wrote .counted ∙ ap (λ (k : ℕ). length (joined (take k ls))) (f .most) in
+    let finished : p .finished ≡ progressIn (length d) ls .finished = f .finished ∙ ap (λ (k : ℕ). eqb k (length ls)) (f .most) in
+    same-progress (f .most) bytes finished
 
 module _ (file label : List ℕ) (n : ℕ) (before after : List ℕ) where
   -- the answer and the output of a reply
@@ -102,7 +103,7 @@ flag-one true false e = absurd (omega arith)
 flag-one false true e = absurd (omega arith)
 flag-one false false e = refl
 
-values-one : (a b : Reply) → values a ≡ values b → a ≡ b
+pub values-one : (a b : Reply) → values a ≡ values b → a ≡ b
 unfolding values
 values-one (Written p) (Written q) e =
     let lines : p .lines ≡ q .lines = cc in

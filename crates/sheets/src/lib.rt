@@ -26,13 +26,7 @@ pub enum Reply {
 }
 
 // Section after section, from line n on.
-fn fill_sheet<'a>(
-    out: &mut [u8],
-    file: &'a [u8],
-    label: &'a [u8],
-    state: State,
-    n: u32,
-) -> Progress
+fn fill_sheet<'a>(out: &mut [u8], file: &'a [u8], label: &'a [u8], state: State, n: u32) -> Progress
     requires { ⌜ Accepted (now file) state × (length (now label) ≤ 507) ⌝ }
     ensures { λ r. ⌜ Filled (drop n (sheetTexts (now (file .entry)) (now (label .entry)))) (now (out .entry)) (now (out .exit)) r ⌝ }
 {

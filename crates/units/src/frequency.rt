@@ -6,7 +6,7 @@ ghost use mathlib.Core.Path.{_≡_};
 ghost use Prim.Native.Nat.{_≤_, _<_};
 ghost use lib.ListN.{length};
 ghost use Rattle.text.specs.Text.{Wrote};
-ghost use Rattle.units.specs.Frequency.{fraction, centihertz, octaves, thirds};
+ghost use Rattle.units.specs.Frequency.{fraction, centihertz, thirds};
 
 // Hundredths of a hertz.
 pub struct Centihertz(pub u32);
@@ -37,33 +37,7 @@ pub fn put_centihertz(out: &mut [u8], f: Centihertz) -> usize
     a + put_fraction(&mut out[a..], n % 100)
 }
 
-// The nominal frequencies of the 1/1 octave bands.
-const OCTAVES: [Centihertz; 15] = [
-    Centihertz(100),
-    Centihertz(200),
-    Centihertz(400),
-    Centihertz(800),
-    Centihertz(1600),
-    Centihertz(3150),
-    Centihertz(6300),
-    Centihertz(12500),
-    Centihertz(25000),
-    Centihertz(50000),
-    Centihertz(100000),
-    Centihertz(200000),
-    Centihertz(400000),
-    Centihertz(800000),
-    Centihertz(1600000),
-];
-
-// The table whole, so that a caller takes it once for all its rows: an element of a constant costs the whole table each time.
-pub fn octaves() -> [Centihertz; 15]
-    ensures { λ r. ⌜ r ≡ octaves ⌝ }
-{
-    OCTAVES
-}
-
-// The nominal frequencies of the 1/3 octave bands.
+// The nominal frequencies of the 1/3 octave bands. Every third of them, from the second on, is a 1/1 octave band's.
 const THIRDS: [Centihertz; 45] = [
     Centihertz(80),
     Centihertz(100),
@@ -112,6 +86,7 @@ const THIRDS: [Centihertz; 45] = [
     Centihertz(2000000),
 ];
 
+// The table whole, so that a caller takes it once for all its rows: an element of a constant costs the whole table each time.
 pub fn thirds() -> [Centihertz; 45]
     ensures { λ r. ⌜ r ≡ thirds ⌝ }
 {

@@ -1,6 +1,5 @@
 -- `fill_sheet` meets its contract: section follows section. Assumes nothing.
 use mathlib.Core.Path.{_∙_}
-use native.Mathlib.Omega.{arith}
 use borrow.Author.Needs.{needs}
 use Rattle.runs.specs.Run.{progressOf}
 use Rattle.runs.proofs.RunLaws.{inside-start, _follow_}

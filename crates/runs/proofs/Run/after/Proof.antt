@@ -1,4 +1,5 @@
 -- `Run::after` meets its contract. Assumes nothing.
+use mathlib.Core.Path.{refl}
 use native.Mathlib.Omega.{arith}
 use borrow.Author.Needs.{needs}
 use Rattle.runs.specs.Run.{afterBy}
@@ -10,11 +11,11 @@ add-t10 c = let fits = rw (c .before .tried .given .1) at (c .before .before .be
 
 returns : tie.Need-returns
 unfolding afterBy
-returns c = rw (c .before .tried .given .1)
+returns c = rw (c .before .tried .given .1) refl
 
 returns-2 : tie.Need-returns-2
 unfolding afterBy
-returns-2 c = rw (c .enum-told .given .1)
+returns-2 c = rw (c .enum-told .given .1) refl
 
 pub after-spec : {M : Type 1} → statement M
 after-spec = tie.close (tie.spec (λ c. search needs) (λ c. search needs) add-t10 (λ c. search needs) returns returns-2)

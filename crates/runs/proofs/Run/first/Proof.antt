@@ -1,4 +1,5 @@
 -- `Run::first` meets its contract. Assumes nothing.
+use mathlib.Core.Path.{refl}
 use borrow.Author.Tests.{lt-ltb, le-ltb}
 use Rattle.runs.specs.Run.{firstOf}
 use Rattle.runs.proofs.Run.first.Statement.{statement}
@@ -6,11 +7,11 @@ use Rattle.runs.proofs.Run.first.Tie as tie
 
 returns : tie.Need-returns
 unfolding firstOf
-returns c = rw (lt-ltb (c .before .before .args .self .skip) (c .before .before .args .count) (c .if1 .taken))
+returns c = rw (lt-ltb (c .before .before .args .self .skip) (c .before .before .args .count) (c .if1 .taken)) refl
 
 returns-2 : tie.Need-returns-2
 unfolding firstOf
-returns-2 c = rw (le-ltb (c .before .before .args .self .skip) (c .before .before .args .count) (c .if1 .left))
+returns-2 c = rw (le-ltb (c .before .before .args .self .skip) (c .before .before .args .count) (c .if1 .left)) refl
 
 pub first-spec : {M : Type 1} → statement M
 first-spec = tie.close (tie.spec returns returns-2)
