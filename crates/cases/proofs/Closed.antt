@@ -19,8 +19,8 @@ use Rattle.titles.specs.Title.{titleText, textAt, titleIn, titleAt}
 use Rattle.slims.specs.Copy.{slimWords, slimCopy, roomFor, replied, slimReply, outputBy}
 use Rattle.reading.specs.Known.{setupIn}
 use Rattle.lines.specs.Line.{further, separated, bytes}
-use Rattle.lines.specs.Names.{named, profileFilters, bufferCodes}
-use Rattle.lines.specs.Lines.{numbersFrom, levelField, profileName, numberEntry, textEntry, bufferColumn, bandColumns, bufferHeading, recordRow}
+use Rattle.names.specs.Names.{named, profileFilters, bufferCodes, profileName}
+use Rattle.lines.specs.Lines.{numbersFrom, levelField, numberEntry, textEntry, bufferColumn, bandColumns, bufferHeading, recordRow}
 use Rattle.pages.specs.Rows.{recordCount, recordRows, texts}
 use Rattle.pages.specs.Sheet.{whereThere, threeIn, filtersIn, codesIn, nameIn, titleShown, headLines, resultLines, spectrumLines, statisticsLines, stepIn, widthIn, bufferLines, sheetLines, sheetTexts}
 use Rattle.sheets.specs.Reply.{progressIn, askedFor, sheetReply}

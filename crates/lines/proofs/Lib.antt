@@ -2,5 +2,4 @@
 pub mod CellLaws
 pub mod ColumnLaws
 pub mod LineLaws
-pub mod NameLaws
 pub mod RowLaws

@@ -1,5 +1,4 @@
 -- What the clauses of the crate cite. Assumes nothing.
 pub mod Line
-pub mod Names
 pub mod Lines
 pub mod Kinds

@@ -12,7 +12,7 @@ ghost use lib.ListN.{length};
 ghost use Rattle.words.specs.Words.{wordsOf};
 ghost use Rattle.text.specs.Fit.{TriedTo};
 ghost use Rattle.lines.specs.Line.{bytes};
-ghost use Rattle.lines.specs.Names.{named, results};
+ghost use Rattle.names.specs.Names.{named, results};
 ghost use Rattle.lines.specs.Lines.{textEntry, resultRow, recordRow};
 ghost use Rattle.lines.specs.Kinds.{lineOf, Brief, cells};
 

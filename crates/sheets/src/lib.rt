@@ -1,6 +1,6 @@
 // Sheet: the lines of a file's sheet, as many whole ones as fit.
-pub mod read;
-pub mod section;
+mod read;
+mod section;
 
 use crate::section::buffer_section;
 use crate::section::head_section;

@@ -1,9 +1,9 @@
--- `names::put_profile` meets its contract. Assumes nothing.
+-- `put_profile` meets its contract. Assumes nothing.
 use borrow.Author.Needs.{needs}
-use Rattle.lines.specs.Lines.{profileName}
 use Rattle.text.proofs.Writing.{_then_}
-use Rattle.lines.proofs.names.put_profile.Statement.{statement}
-use Rattle.lines.proofs.names.put_profile.Tie as tie
+use Rattle.names.specs.Names.{profileName}
+use Rattle.names.proofs.put_profile.Statement.{statement}
+use Rattle.names.proofs.put_profile.Tie as tie
 
 returns : tie.Need-returns
 unfolding profileName

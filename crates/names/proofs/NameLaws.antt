@@ -5,7 +5,7 @@ use Prim.Native.Nat.{ℕ, _≤_, zero-le}
 use borrow.Author.Tests.{ne-eqb}
 use Rattle.text.specs.Text.{Wrote}
 use Rattle.text.proofs.Writing.{nothing, text-is, at-most}
-use Rattle.lines.specs.Names.{named}
+use Rattle.names.specs.Names.{named}
 
 -- the name of a key was written
 pub keyed : (table : List (ℕ × List ℕ)) (key code : ℕ) {d e : List ℕ} {n p q : ℕ} → code ≡ key → Wrote (named table key) p d e n → p ≤ q

@@ -1,10 +1,10 @@
--- `names::put_buffer_code` meets its contract: each arm writes the name of its key. Assumes nothing.
+-- `put_buffer_code` meets its contract: each arm writes the name of its key. Assumes nothing.
 use borrow.Author.Needs.{needs}
 use native.Mathlib.Omega.{arith}
-use Rattle.lines.specs.Names.{named, bufferCodes}
-use Rattle.lines.proofs.NameLaws.{keyed, unkeyed}
-use Rattle.lines.proofs.names.put_buffer_code.Statement.{statement}
-use Rattle.lines.proofs.names.put_buffer_code.Tie as tie
+use Rattle.names.specs.Names.{named, bufferCodes}
+use Rattle.names.proofs.NameLaws.{keyed, unkeyed}
+use Rattle.names.proofs.put_buffer_code.Statement.{statement}
+use Rattle.names.proofs.put_buffer_code.Tie as tie
 
 returns : tie.Need-returns
 unfolding named bufferCodes

@@ -1,10 +1,10 @@
--- `names::put_spectrum_filter` meets its contract: each arm writes the name of its key. Assumes nothing.
+-- `put_spectrum_filter` meets its contract: each arm writes the name of its key. Assumes nothing.
 use borrow.Author.Needs.{needs}
 use native.Mathlib.Omega.{arith}
-use Rattle.lines.specs.Names.{named, spectrumFilters}
-use Rattle.lines.proofs.NameLaws.{keyed, unkeyed}
-use Rattle.lines.proofs.names.put_spectrum_filter.Statement.{statement}
-use Rattle.lines.proofs.names.put_spectrum_filter.Tie as tie
+use Rattle.names.specs.Names.{named, spectrumFilters}
+use Rattle.names.proofs.NameLaws.{keyed, unkeyed}
+use Rattle.names.proofs.put_spectrum_filter.Statement.{statement}
+use Rattle.names.proofs.put_spectrum_filter.Tie as tie
 
 returns : tie.Need-returns
 unfolding named spectrumFilters

@@ -1,8 +1,8 @@
--- `names::put_buffer_column` meets its contract. Assumes nothing.
+-- `put_buffer_column` meets its contract. Assumes nothing.
 use borrow.Author.Needs.{needs}
 use Rattle.text.proofs.Writing.{_then_}
-use Rattle.lines.proofs.names.put_buffer_column.Statement.{statement}
-use Rattle.lines.proofs.names.put_buffer_column.Tie as tie
+use Rattle.names.proofs.put_buffer_column.Statement.{statement}
+use Rattle.names.proofs.put_buffer_column.Tie as tie
 
 returns : tie.Need-returns
 returns c =

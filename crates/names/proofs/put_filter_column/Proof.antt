@@ -1,9 +1,9 @@
--- `names::put_filter_column` meets its contract. Assumes nothing.
+-- `put_filter_column` meets its contract. Assumes nothing.
 use borrow.Author.Needs.{needs}
-use Rattle.lines.specs.Lines.{filterColumn}
 use Rattle.text.proofs.Writing.{_then_}
-use Rattle.lines.proofs.names.put_filter_column.Statement.{statement}
-use Rattle.lines.proofs.names.put_filter_column.Tie as tie
+use Rattle.names.specs.Names.{filterColumn}
+use Rattle.names.proofs.put_filter_column.Statement.{statement}
+use Rattle.names.proofs.put_filter_column.Tie as tie
 
 returns : tie.Need-returns
 unfolding filterColumn

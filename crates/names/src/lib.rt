@@ -7,8 +7,7 @@ ghost use Prim.Native.Nat.{_≤_};
 ghost use lib.ListN.{length};
 ghost use Rattle.text.specs.Ascii.{ascii};
 ghost use Rattle.text.specs.Text.{Wrote};
-ghost use Rattle.lines.specs.Names.{named, profileFilters, bufferCodes, spectrumFilters, results};
-ghost use Rattle.lines.specs.Lines.{profileName, filterColumn};
+ghost use Rattle.names.specs.Names.{named, profileFilters, bufferCodes, spectrumFilters, results, profileName, filterColumn};
 
 fn put_profile_filter(out: &mut [u8], code: u16) -> usize
     requires { ⌜ 3 ≤ length (now out) ⌝ }

@@ -1,10 +1,10 @@
--- `names::put_profile_filter` meets its contract: each arm writes the name of its key. Assumes nothing.
+-- `put_profile_filter` meets its contract: each arm writes the name of its key. Assumes nothing.
 use borrow.Author.Needs.{needs}
 use native.Mathlib.Omega.{arith}
-use Rattle.lines.specs.Names.{named, profileFilters}
-use Rattle.lines.proofs.NameLaws.{keyed, unkeyed}
-use Rattle.lines.proofs.names.put_profile_filter.Statement.{statement}
-use Rattle.lines.proofs.names.put_profile_filter.Tie as tie
+use Rattle.names.specs.Names.{named, profileFilters}
+use Rattle.names.proofs.NameLaws.{keyed, unkeyed}
+use Rattle.names.proofs.put_profile_filter.Statement.{statement}
+use Rattle.names.proofs.put_profile_filter.Tie as tie
 
 returns : tie.Need-returns
 unfolding named profileFilters
