@@ -1,5 +1,6 @@
 // One row of each kind of text, from literal values, and the lines of the 1/3 octave bands as many at a time as fit.
 use libc::STDOUT_FILENO;
+use runs::Run;
 use text::decimal::put_decimal;
 use text::fit::Progress;
 use text::fit::Tried;
@@ -11,11 +12,12 @@ use units::frequency::put_centihertz;
 use units::frequency::thirds;
 use units::level::Tenths;
 use units::level::put_tenths;
-ghost use mathlib.Core.Path.{_≡_};
-ghost use Prim.Native.Nat.{_-_, _≤_};
+ghost use mathlib.Core.List.{[], _∷_};
+ghost use Prim.Native.Nat.{_≤_};
 ghost use lib.ListN.{length, drop};
 ghost use Rattle.text.specs.Text.{Wrote};
 ghost use Rattle.text.specs.Fit.{TriedTo, Filled};
+ghost use Rattle.runs.specs.Run.{Inside, Continued};
 ghost use Rattle.rows.specs.Rows.{bandLine, bandLines};
 
 // A band's frequency, and the line's end.
@@ -36,11 +38,16 @@ fn try_band(out: &mut [u8], f: Centihertz) -> Tried
     try_line(out, &row[0..n])
 }
 
-// How many bands there are from band `first` on.
-fn bands_from(first: u32) -> u32
-    ensures { λ r. ⌜ r ≡ 45 - first ⌝ }
+// The same behind the lines of a run.
+fn fill_band(out: &mut [u8], run: Run, f: Centihertz) -> Run
+    requires { ⌜ Inside run (now out) ⌝ }
+    ensures { λ r. ⌜ Continued (bandLine f ∷ []) (now (out .entry)) (now (out .exit)) run r ⌝ }
 {
-    if first < 45 { 45 - first } else { 0 }
+    if !run.writes() {
+        return run.passed(1);
+    }
+    let at = run.bytes;
+    run.after(try_band(&mut out[at..], f))
 }
 
 // As many bands, from band `first` on, as fit.
@@ -48,26 +55,16 @@ fn put_bands(out: &mut [u8], first: u32) -> Progress
     ensures { λ r. ⌜ Filled (drop first bandLines) (now (out .entry)) (now (out .exit)) r ⌝ }
 {
     let bands = thirds();
-    let count = bands_from(first);
-    let mut at = 0;
-    let mut i = 0u32;
-    while i < count {
-        let band = bands[(first + i) as usize];
-        let tried = try_band(&mut out[at..], band);
-        let Tried::Put(n) = tried else {
-            return Progress {
-                lines: i,
-                bytes: at,
-                finished: false,
-            };
-        };
-        at += n;
+    let mut run = Run::start(first as usize);
+    let mut i = 0;
+    while i < 45 {
+        run = fill_band(out, run, bands[i]);
         i += 1;
     }
     Progress {
-        lines: i,
-        bytes: at,
-        finished: true,
+        lines: run.lines as u32,
+        bytes: run.bytes,
+        finished: run.all,
     }
 }
 

@@ -1,7 +1,7 @@
 -- Laws of `Filled` where lines come behind those that were written: all of them fit and a line more is tried, or one did not
 -- fit and nothing is written any more. Assumes nothing.
 use mathlib.Core.Bool.{Bool, true, false, cond}
-use mathlib.Core.List.{List, [], _∷_, _++_, append-nil, append-assoc}
+use mathlib.Core.List.{List, [], _∷_, _++_, append-nil}
 use mathlib.Core.Path.{_≡_, refl, sym, ap, _∙_}
 use Prim.Native.Nat.{ℕ, zero, suc, _+_, _-_, _≤_, _<_, zero-le}
 use native.Mathlib.Nat.{zero-add, sub-zero, not-suc-le-zero, le-of-suc-le-suc}
@@ -15,6 +15,7 @@ use Rattle.text.specs.declared.fit.Progress.{Progress}
 use Rattle.text.specs.declared.fit.Tried.the-variants.{Put, Full}
 use Rattle.text.specs.Fit.{fit, joined, TriedTo, Filled}
 use Rattle.text.specs.Text.{Wrote}
+use Rattle.text.proofs.FitLaws.{joined-append}
 use Rattle.text.proofs.Writing.{_then_, text-is, bounded, rest-length}
 
 -- ---- how many fit
@@ -63,8 +64,7 @@ take-front (suc n) (x ∷ xs) ys h = ap (λ l. x ∷ l) (take-front n xs ys (le-
 
 joined-last : (xs : List (List ℕ)) (l : List ℕ) → joined (xs ++ (l ∷ [])) ≡ joined xs ++ l
 unfolding joined
-joined-last [] l = append-nil l
-joined-last (x ∷ xs) l = rw (joined-last xs l) (sym (append-assoc x (joined xs) l))
+joined-last xs l = joined-append xs (l ∷ []) ∙ ap (λ (t : List ℕ). joined xs ++ t) (append-nil l)
 
 -- ---- what was written
 

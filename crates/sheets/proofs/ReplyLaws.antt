@@ -1,7 +1,7 @@
 -- The answer of Sheet: how its cases come about, and that there is one. Assumes nothing.
 use mathlib.Core.Bool.{Bool, true, false, cond}
 use mathlib.Core.List.{List, [], _++_}
-use mathlib.Core.Path.{_≡_, refl, sym, ap, ap₂, subst, _∙_}
+use mathlib.Core.Path.{_≡_, refl, sym, ap, subst, _∙_}
 use Prim.Native.Nat.{ℕ, _≤_, _<_}
 use native.Mathlib.Omega.{arith}
 use borrow.Author.Tests.{lt-ltb, le-ltb}
@@ -9,6 +9,7 @@ use lib.Dec.{eqb}
 use lib.ListN.{length, take, drop, length-drop}
 use Rattle.text.specs.declared.fit.Progress.{Progress}
 use Rattle.text.specs.Fit.{joined, Filled}
+use Rattle.text.proofs.FitLaws.{same-progress}
 use Rattle.accept.specs.declared.judge.State.{State}
 use Rattle.accept.specs.declared.judge.Judged.the-variants.{Passed, Denied}
 use Rattle.accept.specs.Judge.{surveyed}
@@ -61,9 +62,6 @@ module _ (file label : List ℕ) (n : ℕ) {d e : List ℕ} where
   ran-few s p f = omega (arith, filled-few f, length-drop n (sheetTexts file label), sheet-few file label s p)
 
 -- ---- the cases
-
-same-progress : {p : Progress} {l b : ℕ} {f : Bool} → p .lines ≡ l → p .bytes ≡ b → p .finished ≡ f → p ≡ record { lines = l; bytes = b; finished = f }
-same-progress {p} {l} x y z = ap (λ k. record { lines = k; bytes = p .bytes; finished = p .finished }) x ∙ ap₂ (λ k f. record { lines = l; bytes = k; finished = f }) y z
 
 filled-is : {ls : List (List ℕ)} {d e : List ℕ} {p : Progress} → Filled ls d e p → p ≡ progressIn (length d) ls
 unfolding progressIn

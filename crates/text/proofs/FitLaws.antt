@@ -1,15 +1,13 @@
 -- Laws of whole lines: what `fit` means, one line more, and the lines of a list. Assumes nothing.
 use mathlib.Core.Bool.{Bool, true, false, cond}
 use mathlib.Core.Path.{_≡_, refl, sym, ap, ap₂, _∙_}
-use mathlib.Core.List.{List, [], _∷_, _++_, append-assoc, append-nil, map, map-append}
+use mathlib.Core.List.{List, [], _∷_, _++_, append-assoc, map}
 use Prim.Native.Nat.{ℕ, zero, suc, _+_, _-_, _≤_, _<_, zero-le}
 use native.Mathlib.Nat.{not-suc-le-zero, le-of-suc-le-suc}
-use native.Mathlib.Numerals.{add-one}
 use native.Mathlib.Omega.{arith}
-use borrow.Author.Tests.{le-leb, lt-leb, leb-true, leb-false}
+use borrow.Author.Tests.{leb-true, leb-false}
 use lib.Dec.{eqb, leb}
-use lib.ListN.{length, getD, take, drop, length-append, drop-of-length-le}
-use lib.Seq.{take-suc, drop-cons}
+use lib.ListN.{length, getD, take, length-append}
 use Rattle.text.specs.declared.fit.Progress.{Progress}
 use Rattle.text.specs.Fit.{fit, joined, Filled}
 use Rattle.text.proofs.Writing.{text-is, wrote-one}
@@ -39,29 +37,12 @@ unfolding fit
 fit-most room [] h = absurd (not-suc-le-zero h)
 fit-most room (l ∷ ls) h = one-more room l ls (leb (length l) room) (fit (room - length l) ls) refl (fit-most (room - length l) ls) h
 
--- ---- one line more
+-- ---- lines behind lines
 
-joined-append : (ls ms : List (List ℕ)) → joined (ls ++ ms) ≡ joined ls ++ joined ms
+pub joined-append : (ls ms : List (List ℕ)) → joined (ls ++ ms) ≡ joined ls ++ joined ms
 unfolding joined
 joined-append [] ms = refl
 joined-append (l ∷ ls) ms = ap (λ t. l ++ t) (joined-append ls ms) ∙ sym (append-assoc l (joined ls) (joined ms))
-
-pub joined-next : (ls : List (List ℕ)) (i : ℕ) → i < length ls → joined (take i ls) ++ getD ls i [] ≡ joined (take (i + 1) ls)
-unfolding joined
-joined-next ls i h = rw (add-one, take-suc ls i [], joined-append, append-nil)
-
-pub fit-next : (room i : ℕ) (ls : List (List ℕ)) → i < length ls → length (getD ls i []) ≤ room
-    → fit room (drop i ls) ≡ suc (fit (room - length (getD ls i [])) (drop (i + 1) ls))
-unfolding fit
-fit-next room i ls h k = rw (add-one, drop-cons ls i [] h, le-leb (length (getD ls i [])) room k)
-
-pub fit-full : (room i : ℕ) (ls : List (List ℕ)) → i < length ls → room < length (getD ls i []) → fit room (drop i ls) ≡ 0
-unfolding fit
-fit-full room i ls h k = rw (drop-cons ls i [] h, lt-leb (length (getD ls i [])) room k)
-
-pub fit-none : (room i : ℕ) (ls : List (List ℕ)) → length ls ≤ i → fit room (drop i ls) ≡ 0
-unfolding fit
-fit-none room i ls h = rw (drop-of-length-le ls h)
 
 -- ---- the lines of a list's elements
 
@@ -70,15 +51,9 @@ map-at f [] i z h = absurd (not-suc-le-zero h)
 map-at f (x ∷ xs) zero z h = refl
 map-at f (x ∷ xs) (suc i) z h = map-at f xs i z (le-of-suc-le-suc h)
 
--- a list written element by element, each as the text that f gives it
-pub map-next : {A : Type 0} (f : A → List ℕ) (xs : List A) (i : ℕ) (z : A) → i < length xs
-    → joined (map f (take i xs)) ++ f (getD xs i z) ≡ joined (map f (take (i + 1) xs))
-unfolding joined
-map-next f xs i z h = rw (add-one, take-suc xs i z, map-append, joined-append, append-nil)
-
 -- ---- two calls that filled an output with the same lines did the same
 
-same-progress : {p q : Progress} → p .lines ≡ q .lines → p .bytes ≡ q .bytes → p .finished ≡ q .finished → p ≡ q
+pub same-progress : {p q : Progress} → p .lines ≡ q .lines → p .bytes ≡ q .bytes → p .finished ≡ q .finished → p ≡ q
 same-progress {p} {q} a b c =
     ap (λ l. record { lines = l; bytes = p .bytes; finished = p .finished }) a
     ∙ ap₂ (λ n f. record { lines = q .lines; bytes = n; finished = f }) b c

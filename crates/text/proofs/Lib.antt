@@ -1,7 +1,6 @@
 -- The laws that the proofs share. Assumes nothing.
 pub mod DecimalLaws
 pub mod DecimalMeans
-pub mod Filling
 pub mod FitLaws
 pub mod Nulls
 pub mod Writing
