@@ -11,9 +11,9 @@ from pathlib import Path
 
 sys.dont_write_bytecode = True  # before the modules beside this one: a run writes its own files and no other
 
-from blocks import title
+from blocks import END, OFF, SUB, buffer_file, free, lengthen, result_file, title
 from cases import checked_file_3, checked_file_8, checked_file_9, good_cases, hard_cases
-from pairs import data_of, pairs
+from pairs import CLASSES, data_of, good_files, pairs
 from sheets import answer, asks
 from two_faults import two_faults
 
@@ -97,6 +97,54 @@ def write_asks():
     write_run('sheet_asks', stdin, stdout)
 
 
+def kinds_of_files():
+    """A file of each kind, with all of demand 3's additions or with none; and files that have no room for some or for any."""
+    lean, grown = good_files()
+    yield from lean.items()
+    yield from ((f'{name}, grown', file) for name, file in grown.items())
+    for function in 1, 2, 3:
+        yield f'function {function}, no statistics', result_file(function)
+        yield f'function {function}, free words FFFF', result_file(function, CLASSES, fill=END)
+        yield f'buffer {function}, no bands', buffer_file(function, buffering=OFF)
+    file = result_file(1)
+    for name, text in ('null in a low byte', b'AB\0CDE'), ('null in a high byte', b'ABC\0DE'), ('null last', b'ABC\0'), \
+            ('empty', b'\0\0'), ('255 words', b'T' * 507 + b'\0'):
+        yield f'title, {name}', file.swap('03', title(text))
+    yield '01 of 255 words', file.swap('01', lengthen(file.block('01'), 243))
+    yield '05 of 255 words', file.swap('05', lengthen(file.block('05'), 235))
+    file = buffer_file(1, records=0)
+    room = 32768 - len(file.words())
+    yield '65536 bytes', file.put('0F', free(0x0099, room, *[0] * (room - 2)))
+
+
+def added_counts(data, line):
+    """How many files are made of one, and how many of these are other files: three by each set of kinds of additions.
+
+    A block of 255 words gets no more, nor does a record in it; a file of 65,536 bytes gets only other bytes behind the title's
+    null. These alone leave the file as it is where no byte stands there."""
+    starts = {key: int(at) for key, at in re.findall(r'(0.|spectrum)=(\d+)', line) if at != '65535'}
+    counts = {key: data[2 * at + 1] for key, at in starts.items()}
+    assert all(n == 255 or n + (12 if key in SUB else 3) <= 255 for key, n in counts.items()), counts
+    assert len(data) == 65536 or len(data) < 60000
+    text = data[2 * starts['03'] + 2:2 * (starts['03'] + counts['03'])]
+    kinds = 4 - (255 in counts.values()) - (255 in (counts.get(key) for key in SUB)) if len(data) < 65536 else 1
+    made = 3 * (2 ** kinds - 1)
+    return made, made - 3 * (text.index(0) == len(text) - 1)
+
+
+def write_added():
+    """Accepted files, and how many with additions are made of each; all are accepted, with the same sheet and slim copy."""
+    stdin, stdout = bytearray(), bytearray()
+    files = [(name, (TESTS / 'vectors' / name).with_suffix('.label').read_bytes(), data, line)
+             for name, data, line in vectors() if line.startswith('accepted')]
+    files += [(name_of('kind', name), b'Order 17', data_of(file.words()), file.accepted()) for name, file in kinds_of_files()]
+    for name, label, data, line in files:
+        made, other = added_counts(data, line)
+        stdin += pack(name.encode('ascii'), label, data)
+        stdout += f'{name}: made {made}, other {other}, accepted {made}, sheets {made}, slims {made}\n'.encode('ascii')
+    write_run('added', stdin, stdout)
+
+
 def write_checked_files():
     """Document 01's files 3, 8 and 9. File 9 has a slim copy that is file 8."""
     file3, file8, file9 = (data_of(words) for words in (checked_file_3(), checked_file_8().words(), checked_file_9().words()))
@@ -154,6 +202,7 @@ def main():
     write_vectors()
     write_walks()
     write_asks()
+    write_added()
     write_checked_files()
     write_table(ones, twos, hard, good, kinds)
 

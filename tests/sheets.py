@@ -92,6 +92,8 @@ def asks():
         yield f'output of {room} bytes', b'', longest, rows, 0, room
     yield 'heading with 48 levels', b'', heading, columns, 6, 1024
     yield 'longest levels', b'', heading, columns, 7, 1024
+    one = heading.swap('03', title(b'A\0'))
+    yield 'checked file 7, the title of 41 00', b'label', one, columns[:5] + ['title=A'] + columns[6:], 5, 1024
     yield 'times of results', b'', classes, bounds, 6, 1024
     yield 'highest class bound', b'', classes, bounds, len(bounds) - 2, 1024
     for size in (506, 507, 508):

@@ -1,4 +1,4 @@
--- The definitions give document 01's answers to each of its closed files. Assumes nothing.
+-- The definitions give what document 01 says of each of its starred cases. Assumes nothing.
 use mathlib.Core.List.{flatten, flatMap}
 use mathlib.Core.Path.{refl}
 use Rattle.words.specs.Words.{wordsOf, bytesOf, longAt}
@@ -25,11 +25,11 @@ use Rattle.pages.specs.Rows.{recordCount, recordRows, texts}
 use Rattle.pages.specs.Sheet.{whereThere, threeIn, filtersIn, codesIn, nameIn, titleShown, headLines, resultLines, spectrumLines, statisticsLines, stepIn, widthIn, bufferLines, sheetLines, sheetTexts}
 use Rattle.sheets.specs.Reply.{progressIn, askedFor, sheetReply}
 use Rattle.sheets.specs.Reply as Sheet
-use Rattle.cases.specs.Cases.{AllSaid, refused, block01, block02, block03, block04, profile, block05, block0F, contents, bufferFile, nineLines, accepted, cases}
+use Rattle.cases.specs.Cases.{AllHold, refused, block01, block02, block03, block04, profile, block05, block0F, contents, bufferFile, nineLines, accepted, starred}
 
-pub cases-hold : AllSaid cases
-unfolding cases refused accepted bufferFile block01 block02 block03 block04 profile block05 block0F contents wordsOf bytesOf longAt beforeNull longForm fronted frontOf rawOf walk walked partsOf then behind allows obeyed ruled rulesIn recorded records sized nulled readable wholeRecords buffered kept counted cutTo textOf cutText slimRecords headBy slimBy wordsIn wordIn subWordIn rowOf slimOf bandsOf levelsOf idIn learnt rowFor keyOf isDue passedOver dueAfter placeOf noted skipped entered enteredBy testedBy judgedBy seenBy seenIn closed judge misfit surveyed recordOf answered verdict values slimPart slims slimsIn slimFrom slimAt titleText textAt titleIn titleAt slimWords slimCopy roomFor replied slimReply outputBy flatten flatMap nineLines digits decimal fit joined signed level fixed signedFixed tenths setupIn further separated bytes named profileFilters bufferCodes numbersFrom levelField profileName numberEntry textEntry bufferColumn bandColumns bufferHeading recordRow recordCount recordRows texts whereThere threeIn filtersIn codesIn nameIn titleShown headLines resultLines spectrumLines statisticsLines stepIn widthIn bufferLines sheetLines sheetTexts progressIn askedFor sheetReply Sheet.replied Sheet.outputBy
-cases-hold = (
+pub starred-hold : AllHold starred
+unfolding starred refused accepted bufferFile block01 block02 block03 block04 profile block05 block0F contents wordsOf bytesOf longAt beforeNull longForm fronted frontOf rawOf walk walked partsOf then behind allows obeyed ruled rulesIn recorded records sized nulled readable wholeRecords buffered kept counted cutTo textOf cutText slimRecords headBy slimBy wordsIn wordIn subWordIn rowOf slimOf bandsOf levelsOf idIn learnt rowFor keyOf isDue passedOver dueAfter placeOf noted skipped entered enteredBy testedBy judgedBy seenBy seenIn closed judge misfit surveyed recordOf answered verdict values slimPart slims slimsIn slimFrom slimAt titleText textAt titleIn titleAt slimWords slimCopy roomFor replied slimReply outputBy flatten flatMap nineLines digits decimal fit joined signed level fixed signedFixed tenths setupIn further separated bytes named profileFilters bufferCodes numbersFrom levelField profileName numberEntry textEntry bufferColumn bandColumns bufferHeading recordRow recordCount recordRows texts whereThere threeIn filtersIn codesIn nameIn titleShown headLines resultLines spectrumLines statisticsLines stepIn widthIn bufferLines sheetLines sheetTexts progressIn askedFor sheetReply Sheet.replied Sheet.outputBy
+starred-hold = (
   record { words-are = refl; values-are = refl; title-is = refl; slim-is = refl; slim-has = refl; sheet-is = refl },
   (
     record { words-are = refl; values-are = refl; title-is = refl; slim-is = refl; slim-has = refl; sheet-is = refl },
@@ -44,10 +44,22 @@ cases-hold = (
             (
               record { words-are = refl; values-are = refl; title-is = refl; slim-is = refl; slim-has = refl; sheet-is = refl },
               (
-                record { words-are = refl; values-are = refl; title-is = refl; slim-is = refl; slim-has = refl; sheet-is = refl },
+                refl,
                 (
-                  record { words-are = refl; values-are = refl; title-is = refl; slim-is = refl; slim-has = refl; sheet-is = refl },
-                  tt,
+                  refl,
+                  (
+                    refl,
+                    (
+                      refl,
+                      (
+                        record { words-are = refl; values-are = refl; title-is = refl; slim-is = refl; slim-has = refl; sheet-is = refl },
+                        (
+                          record { words-are = refl; values-are = refl; title-is = refl; slim-is = refl; slim-has = refl; sheet-is = refl },
+                          tt,
+                        ),
+                      ),
+                    ),
+                  ),
                 ),
               ),
             ),

@@ -1,10 +1,12 @@
--- Checked files 1 to 4, 8 and 9 of document 01, beside what the calls answer to each. Assumes nothing.
+-- The starred cases of document 01's page, Checked files, in one list: 1 to 5, 8 and 9. Assumes nothing.
 use mathlib.Core.List.{List, [], _∷_, _++_}
 use mathlib.Core.Path.{_≡_}
 use Prim.Native.Nat.{ℕ}
 use lib.ListN.{length, replicate}
-use Rattle.words.specs.Words.{wordsOf, bytesOf}
+use Rattle.words.specs.Words.{wordsOf, bytesOf, longAt}
 use Rattle.text.specs.Ascii.{ascii}
+use Rattle.text.specs.Decimal.{decimal}
+use Rattle.units.specs.Level.{level, tenths}
 use Rattle.blocks.specs.Walk.{endMarker}
 use Rattle.accept.specs.Judge.{absent}
 use Rattle.accept.specs.Check.{verdict, values}
@@ -36,14 +38,23 @@ pub record Said (c : Case) : Type 0 where
   pub slim-has : length (wordsOf (outputBy (slimCopy (c .file)) [] (slimReply (c .file) 65536))) ≡ c .slim-words
   pub sheet-is : Sheet.outputBy (sheetTexts (c .file) []) [] (sheetReply (c .file) [] 0 65536) ≡ c .sheet
 
-abbrev pub AllSaid : List Case → Type 0
-AllSaid [] = Unit {0}
-AllSaid (c ∷ cs) = Said c × AllSaid cs
+-- a starred case: a file, or a text that the definitions give beside the page's
+pub data Starred : Type 0 where
+  file : Case → Starred
+  shows : List ℕ → List ℕ → Starred
+
+abbrev pub Holds : Starred → Type 0
+Holds (file c) = Said c
+Holds (shows given text) = given ≡ text
+
+abbrev pub AllHold : List Starred → Type 0
+AllHold [] = Unit {0}
+AllHold (x ∷ xs) = Holds x × AllHold xs
 
 -- a refused file of n words, by number and position
-unfoldable pub refused : List ℕ → ℕ → ℕ → ℕ → Case
-refused file n num at =
-    record { file = file; words = n; values = num ∷ (at ∷ []); title = Label; slim = []; slim-words = 0; sheet = [] }
+unfoldable pub refused : List ℕ → ℕ → ℕ → ℕ → Starred
+refused bytes n num at =
+    file (record { file = bytes; words = n; values = num ∷ (at ∷ []); title = Label; slim = []; slim-words = 0; sheet = [] })
 
 -- ---- the blocks of file 8: "All blocks of least length, .. unstated words 0"
 
@@ -99,9 +110,9 @@ nineLines =
 -- such a file of n words, whose 0F starts at word `at`, is accepted: 0, the function, and the starts of 01, 02, 03, 04, 05, 07,
 -- spectrum, 09 and 0F. Its title is the four bytes behind the first word of 03, its slim copy the file with no such blocks, and its
 -- sheet the nine lines
-unfoldable pub accepted : List ℕ → ℕ → ℕ → Case
+unfoldable pub accepted : List ℕ → ℕ → ℕ → Starred
 accepted more n at =
-    record {
+    file (record {
       file = bytesOf (bufferFile more);
       words = n;
       values = 0 ∷ (1 ∷ (0 ∷ (12 ∷ (18 ∷ (22 ∷ (45 ∷ (absent ∷ (absent ∷ (absent ∷ (at ∷ []))))))))));
@@ -109,10 +120,10 @@ accepted more n at =
       slim = bufferFile [];
       slim-words = 78;
       sheet = nineLines;
-    }
+    })
 
-unfoldable pub cases : List Case
-cases =
+unfoldable pub starred : List Starred
+starred =
     refused [] 0 2 0
     ∷ refused (7 ∷ []) 0 1 0
     ∷ refused (bytesOf (0xFFFF ∷ [])) 1 4 0
@@ -120,6 +131,10 @@ cases =
     ∷ refused (bytesOf (0x0601 ∷ replicate 5 0)) 6 3 0
     ∷ refused (bytesOf (block01 ++ (0x0602 ∷ (0 ∷ (953 ∷ replicate 3 0))))) 18 5 14
     ∷ refused (bytesOf (block01 ++ (0x00AA ∷ (0x0001 ∷ [])))) 14 3 12
+    ∷ shows (tenths (level 0xFFFB)) (ascii "-0.5")
+    ∷ shows (tenths (level 0x8000)) (ascii "-3276.8")
+    ∷ shows (tenths (level 0x7FFF)) (ascii "3276.7")
+    ∷ shows (decimal (longAt (0x0001 ∷ (0x0002 ∷ [])) 0)) (ascii "131073")
     ∷ accepted [] 78 65
     ∷ accepted (0x0199 ∷ []) 79 66
     ∷ []

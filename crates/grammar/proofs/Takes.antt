@@ -114,7 +114,7 @@ key-low w = go (eqb (low w) 0x0B)
 pub key-listed : (w : ℕ) {k : ℕ} → keyOf w ≡ k → rowOf (low w) .listed ≡ rowOf (low k) .listed
 key-listed w {k} e = ap (λ (i : ℕ). rowOf i .listed) {x = low w} {y = low k} (sym (key-low w) ∙ ap low e)
 
-good-is : (t : Tested) → good t ≡ true → t ≡ Good
+pub good-is : (t : Tested) → good t ≡ true → t ≡ Good
 unfolding good
 good-is Good e = refl
 good-is (Bad num at) e = absurd (false≢true e)

@@ -1,5 +1,5 @@
 // Packs of test data on standard input: items one behind the other, each three bytes of length, low byte first, and so many
-// bytes.
+// bytes; and whether two rows of bytes are the same.
 use libc::STDIN_FILENO;
 ghost use mathlib.Core.Path.{_≡_};
 ghost use Prim.Native.Nat.{_<_, _≤_};
@@ -26,4 +26,19 @@ pub fn read_item(row: &mut [u8]) -> usize
         return 0;
     }
     io::read_full(STDIN_FILENO, &mut row[0..size])
+}
+
+// Whether two slices have the same bytes.
+pub fn is_same(a: &[u8], b: &[u8]) -> bool {
+    if a.len() != b.len() {
+        return false;
+    }
+    let mut i = 0;
+    while i < a.len() {
+        if a[i] != b[i] {
+            return false;
+        }
+        i += 1;
+    }
+    true
 }

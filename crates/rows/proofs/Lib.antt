@@ -1,3 +1,3 @@
 -- The laws of the crate. Assumes nothing.
 pub mod BandLaws
-pub mod Examples
+pub mod ExamplesHold

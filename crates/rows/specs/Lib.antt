@@ -1,3 +1,3 @@
 -- What the clauses of the crate cite, and the closed examples. Assumes nothing.
-pub mod Cases
+pub mod Examples
 pub mod Rows

@@ -3,6 +3,7 @@
 // gave just the rest of the whole sheet.
 use bytes::scan::find;
 use libc::STDOUT_FILENO;
+use packs::is_same;
 use packs::read_item;
 use sheets::Reply;
 use sheets::sheet;
@@ -17,20 +18,6 @@ fn line_length(row: &[u8], size: usize) -> usize
 {
     let end = find(row, 0, size, b'\n');
     if end < size { end + 1 } else { end }
-}
-
-fn is_same(a: &[u8], b: &[u8]) -> bool {
-    if a.len() != b.len() {
-        return false;
-    }
-    let mut i = 0;
-    while i < a.len() {
-        if a[i] != b[i] {
-            return false;
-        }
-        i += 1;
-    }
-    true
 }
 
 // Writes the lines from line n on, as many as fit; none where the file is refused.

@@ -2,8 +2,8 @@
 use Prim.Native.Nat.{_-_, _≤_}
 use borrow.Author.Needs.{needs}
 use lib.ListN.{length}
-use Rattle.sheet_walks.proofs.is_same.Statement.{statement}
-use Rattle.sheet_walks.proofs.is_same.Tie as tie
+use Rattle.packs.proofs.is_same.Statement.{statement}
+use Rattle.packs.proofs.is_same.Tie as tie
 
 abbrev Inv-loop : tie.InvT-loop
 Inv-loop a b i₀ i = i ≤ length a

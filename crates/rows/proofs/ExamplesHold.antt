@@ -7,8 +7,8 @@ use Rattle.units.specs.Frequency.{fraction, centihertz, octaves, thirds}
 use Rattle.units.specs.Level.{signed, level, bound, fixed, signedFixed, tenths}
 use Rattle.words.specs.Words.{wordsOf, longAt}
 use Rattle.rows.specs.Rows.{bandLine, bandLines}
-use Rattle.rows.specs.Cases.{caseFive, more, cases}
+use Rattle.rows.specs.Examples.{examples}
 
-pub cases-hold : map (λ p. p .0) cases ≡ map (λ p. p .1) cases
-unfolding cases caseFive more decimal digits tenths signedFixed fixed signed level bound centihertz fraction octaves thirds fit joined bandLine bandLines wordsOf longAt
-cases-hold = refl
+pub examples-hold : map (λ p. p .0) examples ≡ map (λ p. p .1) examples
+unfolding examples decimal digits tenths signedFixed fixed signed level bound centihertz fraction octaves thirds fit joined bandLine bandLines wordsOf longAt
+examples-hold = refl

@@ -1,5 +1,5 @@
 -- Closed examples: a text that the definitions give, beside the text that is expected. Assumes nothing.
-use mathlib.Core.List.{List, [], _∷_, _++_, map}
+use mathlib.Core.List.{List, [], _∷_, map}
 use Prim.Native.Nat.{ℕ}
 use lib.ListN.{take}
 use Rattle.text.specs.Ascii.{ascii}
@@ -11,18 +11,9 @@ use Rattle.text.specs.Text.{shown}
 use Rattle.words.specs.Words.{wordsOf, longAt}
 use Rattle.rows.specs.Rows.{bandLine, bandLines}
 
--- "levels FFFB, 8000, 7FFF: -0.5, -3276.8, 3276.7. Words 0001, 0002 as a time: 131073" (document 01, checked file 5)
-unfoldable pub caseFive : List (List ℕ × List ℕ)
-caseFive =
-    (tenths (level 0xFFFB), ascii "-0.5")
-    ∷ (tenths (level 0x8000), ascii "-3276.8")
-    ∷ (tenths (level 0x7FFF), ascii "3276.7")
-    ∷ (decimal (longAt (0x0001 ∷ 0x0002 ∷ []) 0), ascii "131073")
-    ∷ []
-
 -- the ends of each range, and what is easily got wrong
-unfoldable pub more : List (List ℕ × List ℕ)
-more =
+unfoldable pub examples : List (List ℕ × List ℕ)
+examples =
     (decimal 0, ascii "0")
     ∷ (decimal 9, ascii "9")
     ∷ (decimal 10, ascii "10")
@@ -41,6 +32,3 @@ more =
     ∷ (joined (take (fit 14 bandLines) bandLines), ascii "0.8\n1\n1.25\n")
     ∷ (joined (map bandLine octaves), ascii "1\n2\n4\n8\n16\n31.5\n63\n125\n250\n500\n1000\n2000\n4000\n8000\n16000\n")
     ∷ []
-
-unfoldable pub cases : List (List ℕ × List ℕ)
-cases = caseFive ++ more

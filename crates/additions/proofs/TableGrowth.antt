@@ -1,0 +1,114 @@
+-- A table block with words at its end and at the ends of its records: it is good by its row as before, counts itself, and has the same
+-- slim form. Once for any row. Assumes nothing.
+use mathlib.Core.Bool.{true, false, cond, not, _&&_}
+use mathlib.Core.List.{List, [], _∷_, _++_}
+use mathlib.Core.Path.{_≡_, refl, sym, _∙_}
+use Prim.Native.Nat.{ℕ, zero, suc, _+_, _-_, _*_, _≤_, _<_}
+use native.Mathlib.Omega.{arith}
+use lib.Dec.{eqb}
+use lib.ListN.{length, getD, List·getD-append}
+use lib.Seq.{take-append-le}
+use borrow.Author.Tests.{not-true, ne-eqb, le-leb}
+use Rattle.words.specs.Words.{low, high}
+use Rattle.words.proofs.Choice.{and-both}
+use Rattle.blocks.specs.Walk.{Whole}
+use Rattle.rules.specs.declared.Row.{Row}
+use Rattle.rules.specs.declared.Tested.the-variants.{Good}
+use Rattle.rules.specs.Block.{rulesIn, sized, readable, kept}
+use Rattle.rules.specs.Slim.{counted, cutTo, slimRecords, headBy, slimBy}
+use Rattle.rules.proofs.BlockLaws.{Kept, kept-says, says-kept, kept-least}
+use Rattle.tables.specs.declared.setup.Setup.{Setup}
+use Rattle.tables.specs.Table.{rowOf}
+use Rattle.tables.specs.Setup.{rowFor, slimOf}
+use Rattle.tables.proofs.TableLaws.{row-exact, row-text, row-subs, row-least}
+use Rattle.sound.proofs.SoundRows.{frontWords, each-sound}
+use Rattle.additions.specs.Additions.{mayGrow, Records, rest, next}
+use Rattle.additions.proofs.Agreeing.{Agree, ruled-agree, buffered-agree, raw-agree}
+use Rattle.additions.proofs.RecordGrowth.{counted-low, counted-high, records-grow, records-length}
+use Rattle.additions.proofs.FirstWord.{logger-row, counted-front}
+
+-- the block h ∷ w ∷ t, and the same with another count and t′ behind word 1
+module _ (h h′ w : ℕ) where
+  words-more : (t more : List ℕ) (i : ℕ) → 0 < i → i < suc (suc (length t)) → getD (h′ ∷ (w ∷ (t ++ more))) i 0 ≡ getD (h ∷ (w ∷ t)) i 0
+  words-more t more zero p q = absurd (omega arith)
+  words-more t more (suc zero) p q = refl
+  words-more t more (suc (suc j)) p q = List·getD-append t more 0 j (omega arith)
+
+  word-one : (t t′ : List ℕ) (i : ℕ) → 0 < i → i < 2 → getD (h′ ∷ (w ∷ t′)) i 0 ≡ getD (h ∷ (w ∷ t)) i 0
+  word-one t t′ zero p q = absurd (omega arith)
+  word-one t t′ (suc zero) p q = refl
+  word-one t t′ (suc (suc j)) p q = absurd (omega arith)
+
+  agree-one : (t t′ : List ℕ) → Agree 2 (h ∷ (w ∷ t)) (h′ ∷ (w ∷ t′))
+  agree-one t t′ = record { word = word-one t t′ }
+
+  -- the words before the sub-blocks are as they were
+  front-agree : {k : ℕ} {t t′ : List ℕ} → Records k t t′ → (n : ℕ) → n ≤ suc (suc (length t)) → Agree (cond (eqb k 0) n 2) (h ∷ (w ∷ t)) (h′ ∷ (w ∷ t′))
+  front-agree (rest t more) n l = record { word = λ i p q. words-more t more i p (omega arith) }
+  front-agree (next {k} a b more c rs) n l = rw (ne-eqb (suc k) 0 (λ z. omega arith)) (agree-one _ _)
+
+  -- and so are those that are kept of them
+  front-kept : low h′ ≡ low h → {k : ℕ} {t t′ : List ℕ} → Records k t t′ → (n : ℕ) → n ≤ suc (suc (length t))
+      → cond (eqb k 0) (cutTo n (h′ ∷ (w ∷ t′))) (counted n (h′ ∷ (w ∷ t′)) ∷ (w ∷ [])) ≡ cond (eqb k 0) (cutTo n (h ∷ (w ∷ t))) (counted n (h ∷ (w ∷ t)) ∷ (w ∷ []))
+  unfolding cutTo counted
+  front-kept same (rest t more) n l = rw (same, take-append-le (n - 1) (w ∷ t) more (omega arith))
+  front-kept same (next {k} a b more c rs) n l = rw (ne-eqb (suc k) 0 (λ z. omega arith), same)
+
+module _ (s : Setup) (h w : ℕ) {t t′ : List ℕ} (raw : List ℕ) (may : mayGrow (rowOf (low h)) ≡ true) (grown : Records (rowOf (low h) .subs .count) t t′) where
+  abbrev row : Row
+  row = rowFor s h
+
+  -- its first word, the count set to match
+  abbrev h₁ : ℕ
+  h₁ = low h + 256 * suc (suc (length t′))
+
+  pub is : (rowOf (low h) .listed ≡ true) × ((rowOf (low h) .exact ≡ false) × (rowOf (low h) .text ≡ false))
+  unfolding mayGrow
+  is =
+      let tests : (rowOf (low h) .listed && (not (rowOf (low h) .exact) && not (rowOf (low h) .text))) ≡ true = may in
+      let a = and-both _ _ tests in
+      let b = and-both _ _ (a .1) in
+      (a .0, (not-true _ (b .0), not-true _ (b .1)))
+
+  grown-by : Records (row .subs .count) t t′
+  grown-by = rw (row-subs s h) grown
+
+  module _ (g : kept row (h ∷ (w ∷ t)) ≡ Good) where
+    was : Kept row (h ∷ (w ∷ t))
+    was = kept-says row (h ∷ (w ∷ t)) g
+
+    near : Agree (frontWords row) (h ∷ (w ∷ t)) (h₁ ∷ (w ∷ t′))
+    unfolding frontWords
+    near = front-agree h h₁ w grown-by (row .least) (kept-least row _ was)
+
+    pub table-good : kept row (h₁ ∷ (w ∷ t′)) ≡ Good
+    unfolding sized readable
+    table-good =
+        let sound = each-sound s h in
+        let long = kept-least row _ was in
+        let r = records-grow (row .subs) (sound .sub-rules) grown-by (was .subs) in
+        says-kept row (h₁ ∷ (w ∷ t′))
+        (record {
+          sized = simp (row-exact s h ∙ is .1 .0, ne-eqb (high h₁) 0 (λ z. omega (arith, counted-high h (suc (suc (length t′))))), le-leb (row .least) (suc (suc (length t′))) (omega (arith, records-length grown)));
+          null = rw (row-text s h ∙ is .1 .1);
+          rules = ruled-agree near (rulesIn (row .rules)) (sound .rules) ∙ was .rules;
+          whole = buffered-agree near row (sound .logger) ∙ was .whole;
+          subs = r .0;
+        })
+
+    pub table-slim : slimOf (h₁ ∷ (w ∷ t′)) raw ≡ slimOf (h ∷ (w ∷ t)) raw
+    unfolding slimOf slimBy headBy
+    table-slim =
+        let r = rowOf (low h) in
+        let least : r .least ≤ suc (suc (length t)) = omega (arith, kept-least row _ was, row-least s h (is .1 .0)) in
+        let subs = records-grow (row .subs) (each-sound s h .sub-rules) grown-by (was .subs) .1 in
+        let subs₁ : slimRecords (r .subs .least) (r .subs .count) t′ ≡ slimRecords (r .subs .least) (r .subs .count) t = rw (row-subs s h) at subs in
+        rw (counted-low h (suc (suc (length t′))), is .1 .0, is .1 .1, subs₁, front-kept h h₁ w (counted-low h _) grown (r .least) least)
+
+    pub table-whole : Whole (record { words = h ∷ (w ∷ t); raw = raw }) → Whole (record { words = h₁ ∷ (w ∷ t′); raw = raw })
+    table-whole wh =
+        let l = counted-low h (suc (suc (length t′))) in
+        record {
+          counted = counted-front h₁ (w ∷ t′) (counted-high h _) (rw l (is .0)) (rw l (is .1 .0));
+          followed = wh .followed ∙ sym (raw-agree near l (λ e. each-sound s h .logger (logger-row s h e)));
+        }

@@ -1,0 +1,2 @@
+-- What the statements of the crate cite. Assumes nothing.
+pub mod Additions

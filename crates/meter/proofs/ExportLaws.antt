@@ -1,0 +1,81 @@
+-- An answer of each of the four calls, as the struct that a caller from outside gets. Assumes nothing.
+use mathlib.Core.Bool.{true, false}
+use mathlib.Core.List.{List, [], _∷_}
+use mathlib.Core.Path.{_≡_, sym, ap, _∙_}
+use Prim.Native.Nat.{ℕ}
+use lib.ListN.{replicate}
+use Rattle.text.specs.declared.fit.Progress.{Progress}
+use Rattle.accept.specs.declared.check.Record.{Record}
+use Rattle.accept.specs.declared.check.Answer.{Answer}
+use Rattle.accept.specs.declared.check.Answer.the-variants.{Accepted, Refused}
+use Rattle.accept.specs.Judge.{absent}
+use Rattle.accept.specs.Check.{verdict, Checked}
+use Rattle.accept.proofs.Answers.{checked-verdict}
+use Rattle.titles.specs.declared.TitleAt.{TitleAt}
+use Rattle.titles.specs.declared.TitleAt.the-variants.{Text, Label}
+use Rattle.sheets.specs.declared.Reply as Sheet
+use Rattle.sheets.specs.Reply.{Sheeted}
+use Rattle.slims.specs.declared.Reply as Slim
+use Rattle.slims.specs.Copy as SlimCall
+use Rattle.meter.specs.Exports.{checkReply, titleReply, sheetStruct, slimStruct, SheetGiven, SlimGiven}
+use Rattle.meter.proofs.FieldLaws.{answer-of-sheet, answer-of-slim}
+
+-- ---- Check
+
+module _ (file : List ℕ) {a : Answer} (h : Checked file a) where
+  -- the record of an accepted file
+  pub check-accepted : {r : Record} → a ≡ Accepted r
+      → record {
+        refusal = 0;
+        function = r .function;
+        starts = r .file ∷ (r .unit ∷ (r .title ∷ (r .setup ∷ (r .profiles ∷ (r .results ∷ (r .spectrum ∷ (r .statistics ∷ (r .logger ∷ []))))))));
+        at = 0;
+      } ≡ checkReply (verdict file)
+  unfolding checkReply
+  check-accepted e = ap checkReply (sym e ∙ checked-verdict file a h)
+
+  -- a refusal has no function and no starts
+  pub check-refused : {num at : ℕ} → a ≡ Refused num at → record { refusal = num; function = 0; starts = replicate 9 absent; at = at } ≡ checkReply (verdict file)
+  unfolding checkReply
+  check-refused e = ap checkReply (sym e ∙ checked-verdict file a h)
+
+-- ---- Title
+
+module _ (n : ℕ) {a t : TitleAt} (h : a ≡ t) where
+  -- a text of the file
+  pub title-text : {at len : ℕ} → a ≡ Text at len → record { «from_file» = true; at = at; len = len } ≡ titleReply n t
+  unfolding titleReply
+  title-text e = ap (titleReply n) (sym e ∙ h)
+
+  -- the whole label
+  pub title-label : a ≡ Label → record { «from_file» = false; at = 0; len = n } ≡ titleReply n t
+  unfolding titleReply
+  title-label e = ap (titleReply n) (sym e ∙ h)
+
+-- ---- Sheet
+
+module _ {file label : List ℕ} {n : ℕ} {before after : List ℕ} {a : Sheet.Reply} (h : Sheeted file label n before after a) where
+  -- a success has no position
+  pub sheet-written : {p : Progress} → a ≡ Sheet.the-variants.Written p
+      → SheetGiven file label n before after (record { refusal = 0; finished = p .finished; at = 0; lines = p .lines; bytes = p .bytes })
+  unfolding sheetStruct
+  sheet-written e = record { answer-is = ap sheetStruct (sym e ∙ answer-of-sheet h); output-is = h .output-is }
+
+  -- a refusal has no lines and no bytes, and is not the end
+  pub sheet-refused : {num at : ℕ} → a ≡ Sheet.the-variants.Refused num at
+      → SheetGiven file label n before after (record { refusal = num; finished = false; at = at; lines = 0; bytes = 0 })
+  unfolding sheetStruct
+  sheet-refused e = record { answer-is = ap sheetStruct (sym e ∙ answer-of-sheet h); output-is = h .output-is }
+
+-- ---- Slim
+
+module _ {file before after : List ℕ} {a : Slim.Reply} (h : SlimCall.Slimmed file before after a) where
+  -- a success has no position
+  pub slim-written : {m : ℕ} → a ≡ Slim.the-variants.Written m → SlimGiven file before after (record { refusal = 0; at = 0; bytes = m })
+  unfolding slimStruct
+  slim-written e = record { answer-is = ap slimStruct (sym e ∙ answer-of-slim h); output-is = h .output-is }
+
+  -- a refusal has no bytes
+  pub slim-refused : {num at : ℕ} → a ≡ Slim.the-variants.Refused num at → SlimGiven file before after (record { refusal = num; at = at; bytes = 0 })
+  unfolding slimStruct
+  slim-refused e = record { answer-is = ap slimStruct (sym e ∙ answer-of-slim h); output-is = h .output-is }

@@ -1,0 +1,54 @@
+-- How an answer of the four calls stands in the struct that a caller from outside gets: `refusal` is document 01's number, and 0 for
+-- success; what an answer does not have is 0 or false, and a start 65,535. Assumes nothing.
+use mathlib.Core.Bool.{true, false}
+use mathlib.Core.List.{List, [], _∷_}
+use mathlib.Core.Path.{_≡_}
+use Prim.Native.Nat.{ℕ}
+use lib.ListN.{length, drop, replicate}
+use Rattle.accept.specs.Judge.{absent}
+use Rattle.accept.specs.declared.check.Answer.{Answer}
+use Rattle.accept.specs.declared.check.Answer.the-variants.{Accepted, Refused}
+use Rattle.titles.specs.declared.TitleAt.{TitleAt}
+use Rattle.titles.specs.declared.TitleAt.the-variants.{Text, Label}
+use Rattle.pages.specs.Sheet.{sheetTexts}
+use Rattle.sheets.specs.declared.Reply as Sheet
+use Rattle.sheets.specs.Reply as SheetCall
+use Rattle.slims.specs.declared.Reply as Slim
+use Rattle.slims.specs.Copy as SlimCall
+use Rattle.meter.specs.declared.CheckReply.{CheckReply}
+use Rattle.meter.specs.declared.TitleReply.{TitleReply}
+use Rattle.meter.specs.declared.SheetReply.{SheetReply}
+use Rattle.meter.specs.declared.SlimReply.{SlimReply}
+
+unfoldable pub checkReply : Answer → CheckReply
+checkReply (Accepted r) =
+    record {
+      refusal = 0;
+      function = r .function;
+      starts = r .file ∷ (r .unit ∷ (r .title ∷ (r .setup ∷ (r .profiles ∷ (r .results ∷ (r .spectrum ∷ (r .statistics ∷ (r .logger ∷ []))))))));
+      at = 0;
+    }
+checkReply (Refused num at) = record { refusal = num; function = 0; starts = replicate 9 absent; at = at }
+
+-- Title for a label of so many bytes: "the whole label" is its bytes from byte 0 on
+unfoldable pub titleReply : ℕ → TitleAt → TitleReply
+titleReply n (Text at len) = record { «from_file» = true; at = at; len = len }
+titleReply n Label = record { «from_file» = false; at = 0; len = n }
+
+unfoldable pub sheetStruct : Sheet.Reply → SheetReply
+sheetStruct (Sheet.the-variants.Written p) = record { refusal = 0; finished = p .finished; at = 0; lines = p .lines; bytes = p .bytes }
+sheetStruct (Sheet.the-variants.Refused num at) = record { refusal = num; finished = false; at = at; lines = 0; bytes = 0 }
+
+unfoldable pub slimStruct : Slim.Reply → SlimReply
+slimStruct (Slim.the-variants.Written n) = record { refusal = 0; at = 0; bytes = n }
+slimStruct (Slim.the-variants.Refused num at) = record { refusal = num; at = at; bytes = 0 }
+
+-- the answer and the output of Sheet
+pub record SheetGiven (file label : List ℕ) (n : ℕ) (before after : List ℕ) (r : SheetReply) : Type 0 where
+  pub answer-is : r ≡ sheetStruct (SheetCall.sheetReply file label n (length before))
+  pub output-is : after ≡ SheetCall.outputBy (drop n (sheetTexts file label)) before (SheetCall.sheetReply file label n (length before))
+
+-- the answer and the output of Slim
+pub record SlimGiven (file before after : List ℕ) (r : SlimReply) : Type 0 where
+  pub answer-is : r ≡ slimStruct (SlimCall.slimReply file (length before))
+  pub output-is : after ≡ SlimCall.outputBy (SlimCall.slimCopy file) before (SlimCall.slimReply file (length before))

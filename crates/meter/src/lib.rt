@@ -1,0 +1,141 @@
+// The four calls for callers from outside: an answer as a struct that C and Rust share (include/meter.h).
+use accept::check::Answer;
+use accept::check::check;
+use sheets::Reply as Sheeted;
+use sheets::sheet;
+use slims::Reply as Slimmed;
+use slims::slim;
+use titles::TitleAt;
+use titles::title_at;
+ghost use mathlib.Core.Path.{_≡_};
+ghost use lib.ListN.{length};
+ghost use Rattle.accept.specs.Check.{verdict};
+ghost use Rattle.titles.specs.Title.{titleAt};
+ghost use Rattle.meter.specs.Exports.{checkReply, titleReply, SheetGiven, SlimGiven};
+
+// Check's answer. `refusal` is 0 for an accepted file; `starts` are those of 01, 02, 03, 04, 05, 07, 0E or 10, 09 and 0F, 65,535
+// for an absent block and in a refused file.
+#[repr(C)]
+pub struct CheckReply {
+    pub refusal: u8,
+    pub function: u8,
+    pub starts: [u16; 9],
+    pub at: u32,
+}
+
+// Where Title's text stands: `len` bytes from byte `at` on, of the file or of the label.
+#[repr(C)]
+pub struct TitleReply {
+    pub from_file: bool,
+    pub at: usize,
+    pub len: usize,
+}
+
+#[repr(C)]
+pub struct SheetReply {
+    pub refusal: u8,
+    pub finished: bool,
+    pub at: u32,
+    pub lines: u32,
+    pub bytes: usize,
+}
+
+#[repr(C)]
+pub struct SlimReply {
+    pub refusal: u8,
+    pub at: u32,
+    pub bytes: usize,
+}
+
+#[no_mangle]
+pub extern "C" fn meter_check(file: &[u8]) -> CheckReply
+    ensures { λ r. ⌜ r ≡ checkReply (verdict (now (file .entry))) ⌝ }
+{
+    match check(file) {
+        Answer::Accepted(r) => CheckReply {
+            refusal: 0,
+            function: r.function as u8,
+            starts: [
+                r.file,
+                r.unit,
+                r.title,
+                r.setup,
+                r.profiles,
+                r.results,
+                r.spectrum,
+                r.statistics,
+                r.logger,
+            ],
+            at: 0,
+        },
+        Answer::Refused { num, at } => CheckReply {
+            refusal: num,
+            function: 0,
+            starts: [65535; 9],
+            at: at as u32,
+        },
+    }
+}
+
+#[no_mangle]
+pub extern "C" fn meter_title(file: &[u8], label: &[u8]) -> TitleReply
+    ensures { λ r. ⌜ r ≡ titleReply (length (now (label .entry))) (titleAt (now (file .entry))) ⌝ }
+{
+    match title_at(file) {
+        TitleAt::Text { at, len } => TitleReply {
+            from_file: true,
+            at,
+            len,
+        },
+        TitleAt::Label => TitleReply {
+            from_file: false,
+            at: 0,
+            len: label.len(),
+        },
+    }
+}
+
+#[no_mangle]
+pub extern "C" fn meter_sheet<'a>(
+    file: &'a [u8],
+    label: &'a [u8],
+    n: u32,
+    out: &mut [u8],
+) -> SheetReply
+    ensures { λ r. ⌜ SheetGiven (now (file .entry)) (now (label .entry)) n (now (out .entry)) (now (out .exit)) r ⌝ }
+{
+    match sheet(file, label, n, out) {
+        Sheeted::Written(p) => SheetReply {
+            refusal: 0,
+            finished: p.finished,
+            at: 0,
+            lines: p.lines,
+            bytes: p.bytes,
+        },
+        Sheeted::Refused { num, at } => SheetReply {
+            refusal: num,
+            finished: false,
+            at: at as u32,
+            lines: 0,
+            bytes: 0,
+        },
+    }
+}
+
+#[no_mangle]
+pub extern "C" fn meter_slim(file: &[u8], out: &mut [u8]) -> SlimReply
+    ensures { λ r. ⌜ SlimGiven (now (file .entry)) (now (out .entry)) (now (out .exit)) r ⌝ }
+{
+    match slim(file, out) {
+        Slimmed::Written(bytes) => SlimReply {
+            refusal: 0,
+            at: 0,
+            bytes,
+        },
+        Slimmed::Refused { num, at } => SlimReply {
+            refusal: num,
+            at: at as u32,
+            bytes: 0,
+        },
+    }
+}

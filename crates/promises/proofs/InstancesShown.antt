@@ -1,0 +1,119 @@
+-- Each of the instances is an accepted file, and that file with every kind of addition. Assumes nothing.
+use mathlib.Core.List.{List, [], _∷_}
+use mathlib.Core.Bool.{true}
+use mathlib.Core.Path.{_≡_, refl}
+use Prim.Native.Nat.{ℕ, _≤_}
+use native.Mathlib.Omega.{arith}
+use lib.Dec.{lit≤}
+use lib.ListN.{length}
+use Rattle.words.specs.Words.{wordsOf, bytesOf, longAt}
+use Rattle.words.proofs.WordLaws.{words-of-bytes, bytes-length}
+use Rattle.text.specs.Text.{beforeNull}
+use Rattle.blocks.specs.Walk.{longForm, fronted, frontOf, rawOf, walk, walked, Part, partsOf, joined}
+use Rattle.rules.specs.Block.{then, behind, allows, obeyed, ruled, rulesIn, recorded, records, sized, nulled, readable, wholeRecords, buffered, kept}
+use Rattle.rules.specs.Slim.{counted, cutTo, textOf, cutText, slimRecords, headBy, slimBy, wordIn, subWordIn}
+use Rattle.tables.specs.Table.{rowOf}
+use Rattle.tables.specs.Setup.{slimOf, bandsOf, levelsOf, idIn, learnt, classesOf, rowFor}
+use Rattle.tables.specs.Order.{keyOf, isDue, passedOver, dueAfter, dueAfterResults}
+use Rattle.additions.specs.Additions.{mayGrow, isText, recounted, rest, Grown, title, Additions, partsIn}
+use Rattle.accept.specs.Judge.{placeOf, noted, skipped, entered, enteredBy, testedBy, judgedBy, seenBy, seenIn, closed, judge, misfit, surveyed}
+use Rattle.grammar.proofs.Takes.{accepts}
+use Rattle.grammar.proofs.Exactly.{accepts-found}
+use Rattle.lines.specs.Lines.{numbersFrom}
+use Rattle.cases.specs.Cases.{block01, block02, profile}
+use Rattle.promises.specs.Files.{fileOf, areBytes, alone, longer, withRecords, titled, setupBlock, resultRecord, octaveSpectrum, thirdSpectrum, classRecord, histogram, loggerPart, headParts, resultsPart, statisticsParts, levelFile, octaveFile, thirdFile, bandFile}
+use Rattle.promises.specs.Instances.{Shown, AllShown, words, strange, between, behindHeader, grown, instances}
+use Rattle.promises.proofs.Growing.{longer-grown, records-grown, table-grown, AllGrown, none, one, all-as-is, grown-append, header-adds}
+
+-- the title's null, and what may stand from there on
+abbrev null : List ℕ
+null = 0 ∷ []
+
+abbrev others : List ℕ
+others = 0x5A00 ∷ (0x2121 ∷ [])
+
+title-grown : Grown (titled null) (titled others)
+unfolding titled alone recounted counted isText rowOf nulled beforeNull bytesOf
+title-grown = title 0x0403 (0x6148 ∷ (0x6C6C ∷ null)) (0x6148 ∷ (0x6C6C ∷ others)) [] refl refl refl
+
+-- the blocks behind 01, up to 05
+head-grown : (function : ℕ)
+    → AllGrown (longer [] block02 ∷ titled null ∷ longer [] (setupBlock function) ∷ withRecords [] 0x05 0x0307 (profile 2 4) (profile 3 0) (profile 1 1) ∷ [])
+    (longer words block02 ∷ titled others ∷ longer words (setupBlock function) ∷ withRecords words 0x05 0x0307 (profile 2 4) (profile 3 0) (profile 1 1) ∷ [])
+unfolding block02 setupBlock profile mayGrow rowOf
+head-grown function =
+    one (longer-grown _ _ _ words refl refl)
+    (one title-grown
+    (one (longer-grown _ _ _ words refl refl)
+    (one (records-grown _ _ _ _ _ _ _ _ words refl refl) none)))
+
+header-grown : Grown (longer [] block01) (longer words block01)
+unfolding block01 mayGrow rowOf
+header-grown = longer-grown _ _ _ words refl refl
+
+results-grown : Grown (resultsPart []) (resultsPart words)
+unfolding resultsPart resultRecord mayGrow rowOf
+results-grown = records-grown _ _ _ _ _ _ _ _ words refl refl
+
+statistics-grown : AllGrown (statisticsParts []) (statisticsParts words)
+unfolding statisticsParts classRecord mayGrow rowOf
+statistics-grown = one (records-grown _ _ _ _ _ _ _ _ words refl refl) (all-as-is _)
+
+octave-grown : Grown (longer [] octaveSpectrum) (longer words octaveSpectrum)
+unfolding octaveSpectrum mayGrow rowOf
+octave-grown = longer-grown _ _ _ words refl refl
+
+third-grown : Grown (longer [] thirdSpectrum) (longer words thirdSpectrum)
+unfolding thirdSpectrum mayGrow rowOf
+third-grown = longer-grown _ _ _ words refl refl
+
+logger-grown : Grown (loggerPart []) (loggerPart words)
+unfolding loggerPart mayGrow rowOf
+logger-grown = table-grown 0x0F 0 _ refl refl (rest _ words)
+
+-- ---- files
+
+module _ (file : List ℕ → List ℕ → List Part) (a : Additions (file [] null) (behindHeader (file words others))) where
+  -- by computation: the blocks of the file, that it is accepted, and that the new one is short and of bytes
+  shown : partsIn (fileOf (file [] null)) ≡ file [] null → accepts (surveyed (fileOf (file [] null))) ≡ true → length (joined (behindHeader (file words others))) ≤ 32768 → areBytes (fileOf (behindHeader (file words others))) ≡ true → Shown (grown file)
+  unfolding grown fileOf
+  shown parts accepted few all =
+      let bytes = bytes-length (joined (behindHeader (file words others))) in
+      record {
+        accepted = accepts-found _ accepted;
+        added =
+            record {
+              parts = behindHeader (file words others);
+              adds = rw parts a;
+              words = words-of-bytes _;
+              even = omega (arith, bytes);
+              short = omega (arith, bytes, few);
+            };
+        bytes = all;
+      }
+
+level-adds : Additions (levelFile [] null) (behindHeader (levelFile words others))
+unfolding levelFile headParts
+level-adds = header-adds header-grown (grown-append (head-grown 1) (one results-grown statistics-grown))
+
+octave-adds : Additions (octaveFile [] null) (behindHeader (octaveFile words others))
+unfolding octaveFile headParts
+octave-adds = header-adds header-grown (grown-append (head-grown 2) (one results-grown (one octave-grown statistics-grown)))
+
+third-adds : Additions (thirdFile [] null) (behindHeader (thirdFile words others))
+unfolding thirdFile headParts
+third-adds = header-adds header-grown (grown-append (head-grown 3) (one results-grown (one third-grown statistics-grown)))
+
+band-adds : Additions (bandFile [] null) (behindHeader (bandFile words others))
+unfolding bandFile headParts
+band-adds = header-adds header-grown (grown-append (head-grown 2) (one logger-grown none))
+
+pub instances-shown : AllShown instances
+unfolding instances partsIn fileOf areBytes levelFile octaveFile thirdFile bandFile headParts resultsPart statisticsParts longer withRecords titled alone setupBlock resultRecord octaveSpectrum thirdSpectrum classRecord histogram loggerPart words strange between behindHeader recounted counted block01 block02 profile numbersFrom wordsOf bytesOf longAt longForm fronted frontOf rawOf walk walked partsOf joined then behind allows obeyed ruled rulesIn recorded records sized nulled readable wholeRecords buffered kept cutTo textOf cutText slimRecords headBy slimBy wordIn subWordIn rowOf slimOf bandsOf levelsOf idIn learnt classesOf rowFor keyOf isDue passedOver dueAfter dueAfterResults placeOf noted skipped entered enteredBy testedBy judgedBy seenBy seenIn closed judge misfit surveyed accepts
+instances-shown = (
+  shown levelFile level-adds refl refl (lit≤ tt) refl,
+  (
+    shown octaveFile octave-adds refl refl (lit≤ tt) refl,
+    (shown thirdFile third-adds refl refl (lit≤ tt) refl, (shown bandFile band-adds refl refl (lit≤ tt) refl, tt)),
+  ),
+)

@@ -1,0 +1,92 @@
+-- What no program gives that refuses everything, prints one fixed text or invents its counts. Assumes nothing.
+use mathlib.Core.List.{List, [], _∷_, _++_}
+use mathlib.Core.Path.{_≡_}
+use Prim.Native.Nat.{ℕ}
+use lib.ListN.{getD, take, drop, replicate}
+use denote.Ref.{RefT}
+use Rattle.text.specs.Ascii.{ascii}
+use Rattle.blocks.specs.Walk.{Part}
+use Rattle.accept.specs.Check.{verdict, values}
+use Rattle.accept.specs.Judge.{absent}
+use Rattle.titles.specs.Title.{Seen, titleOf}
+use Rattle.slims.specs.Copy.{slimCopy}
+use Rattle.pages.specs.Sheet.{sheetTexts}
+use Rattle.sheets.specs.Reply.{sheetReply}
+use Rattle.sheets.specs.Reply as Sheet
+use Rattle.promises.specs.Files.{fileOf, alone, octaveFile, thirdFile, bandFile}
+use Rattle.promises.specs.Forbidden.{sheetOf, levelParts}
+
+-- two texts, or two lists of numbers
+pub data Fact : Type 0 where
+  is : List ℕ → List ℕ → Fact
+  differ : List ℕ → List ℕ → Fact
+
+abbrev pub True : Fact → Type 0
+True (is a b) = a ≡ b
+True (differ a b) = a ≡ b → ⊥
+
+abbrev pub AllTrue : List Fact → Type 0
+AllTrue [] = Unit {0}
+AllTrue (f ∷ fs) = True f × AllTrue fs
+
+-- ---- files of the other kinds
+
+unfoldable pub octaveParts : List Part
+octaveParts = octaveFile [] (0 ∷ [])
+
+unfoldable pub thirdParts : List Part
+thirdParts = thirdFile [] (0 ∷ [])
+
+unfoldable pub bandParts : List Part
+bandParts = bandFile [] (0 ∷ [])
+
+-- the measurement of function 1 with an empty title
+unfoldable pub untitledParts : List Part
+untitledParts = take 2 levelParts ++ (alone (0x0203 ∷ (0 ∷ [])) ∷ drop 3 levelParts)
+
+-- ---- answers as numbers
+
+-- bytes that are lent, in the memory with this number
+unfoldable pub lent : ℕ → List ℕ → RefT (List ℕ)
+lent memory bytes = record { ptr = (memory, 0); name = 0; now = bytes }
+
+-- what Title hands back: the number of the memory and the offset in it where it starts, and its bytes
+unfoldable pub handedBack : Seen → List ℕ
+handedBack s = s .0 .0 ∷ (s .0 .1 ∷ s .1)
+
+-- Sheet's number and values, with a label of so many bytes
+unfoldable pub asked : List ℕ → ℕ → ℕ → ℕ → List ℕ
+asked file label n room = Sheet.values (sheetReply file (replicate label 65) n room)
+
+-- ---- the facts
+
+unfoldable pub facts : List Fact
+facts =
+    -- an accepted file of each kind: 0, the function, and where each block starts
+    is (values (verdict (fileOf levelParts))) (0 ∷ (1 ∷ (0 ∷ (12 ∷ (18 ∷ (22 ∷ (45 ∷ (65 ∷ (absent ∷ (109 ∷ (absent ∷ [])))))))))))
+    ∷ is (values (verdict (fileOf octaveParts))) (0 ∷ (2 ∷ (0 ∷ (12 ∷ (18 ∷ (22 ∷ (45 ∷ (65 ∷ (109 ∷ (132 ∷ (absent ∷ [])))))))))))
+    ∷ is (values (verdict (fileOf thirdParts))) (0 ∷ (3 ∷ (0 ∷ (12 ∷ (18 ∷ (22 ∷ (45 ∷ (65 ∷ (109 ∷ (162 ∷ (absent ∷ [])))))))))))
+    ∷ is (values (verdict (fileOf bandParts))) (0 ∷ (2 ∷ (0 ∷ (12 ∷ (18 ∷ (22 ∷ (45 ∷ (absent ∷ (absent ∷ (absent ∷ (65 ∷ [])))))))))))
+    -- different sheets, and different slim copies
+    ∷ differ (sheetOf (fileOf levelParts)) (sheetOf (fileOf octaveParts))
+    ∷ differ (sheetOf (fileOf thirdParts)) (sheetOf (fileOf bandParts))
+    ∷ differ (slimCopy (fileOf levelParts)) (slimCopy (fileOf octaveParts))
+    ∷ differ (slimCopy (fileOf thirdParts)) (slimCopy (fileOf bandParts))
+    -- Title: a part of the file, which is memory 1, and not the label; the label, which is memory 2, for a file with an empty title
+    ∷ is (handedBack (titleOf (lent 1 (fileOf levelParts)) (lent 2 (ascii "label")))) (1 ∷ (38 ∷ ascii "Hall"))
+    ∷ is (handedBack (titleOf (lent 1 (fileOf untitledParts)) (lent 2 (ascii "label")))) (2 ∷ (0 ∷ ascii "label"))
+    -- later lines of a sheet
+    ∷ is (getD (sheetTexts (fileOf levelParts) []) 0 []) (ascii "unit=945\n")
+    ∷ is (getD (sheetTexts (fileOf levelParts) []) 6 []) (ascii "result,unit,P1 A,P2 C,P3 Lin\n")
+    ∷ is (getD (sheetTexts (fileOf levelParts) []) 25 []) (ascii "P3,25.0,65542\n")
+    -- lines, bytes and whether it is finished, by the line number and the room
+    ∷ is (asked (fileOf thirdParts) 0 0 65536) (0 ∷ (0 ∷ (75 ∷ (1057 ∷ (1 ∷ [])))))
+    ∷ is (asked (fileOf thirdParts) 0 0 1024) (0 ∷ (0 ∷ (72 ∷ (1019 ∷ (0 ∷ [])))))
+    ∷ is (asked (fileOf thirdParts) 0 72 1024) (0 ∷ (0 ∷ (3 ∷ (38 ∷ (1 ∷ [])))))
+    ∷ is (asked (fileOf thirdParts) 0 75 1024) (0 ∷ (0 ∷ (0 ∷ (0 ∷ (1 ∷ [])))))
+    -- "The order is 1; then file order; then 10; then 11"
+    ∷ is (asked (7 ∷ []) 508 0 0) (1 ∷ (0 ∷ []))
+    ∷ is (asked (fileOf (levelParts ++ levelParts)) 508 0 0) (4 ∷ (141 ∷ []))
+    ∷ is (asked (fileOf levelParts) 508 0 0) (10 ∷ (0 ∷ []))
+    ∷ is (asked (fileOf levelParts) 507 0 0) (11 ∷ (0 ∷ []))
+    ∷ []

@@ -1,0 +1,1 @@
+// No code: what the firm tells its customers. See specs/ and proofs/.

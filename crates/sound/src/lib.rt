@@ -1,0 +1,1 @@
+// No code: what holds of any block and any row of the tables. See proofs/.

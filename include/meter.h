@@ -1,0 +1,86 @@
+/*
+ * The four calls of the converter, for C and C++ programs on x86-64 (target/staticlib/libmeter.a, by `rt staticlib meter`).
+ *
+ * `refusal` is 0 for success, or one of these numbers; `at` is the position, in words of the file:
+ *
+ *   no.  given when                                                                    position
+ *    1   byte length odd or over 65,536                                                0
+ *    2   words run out at a block start, or a block or raw contents pass the last word block start
+ *    3   length below the table, 0B not exact, long form under 2 or not allowed,
+ *        title without null                                                            block start
+ *    4   a listed block or the end marker out of order                                 block start
+ *    5   unit type                                                                     that word
+ *    6   word 1 of 05, 07, 09, 0E or 10                                                that word
+ *    7   sub-block id, length, or past its block                                       sub-block start
+ *    8   any other checked word                                                        that word (BuffLength: word 6)
+ *    9   a word after the end marker                                                   first such word
+ *   10   label over 507 bytes (meter_sheet only)                                       0
+ *   11   output under 1,024 bytes (meter_sheet), or under the slim length (meter_slim) 0
+ *
+ * A caller owes: file, label and output do not overlap, and nobody else writes them during a call; each pointer is good for its
+ * length; with length 0 any pointer may stand.
+ *
+ * A caller gets: no state is kept and nothing is allocated, so calls may run side by side; a refusal writes no byte of the output, a
+ * success only the bytes it counts.
+ */
+#ifndef METER_H
+#define METER_H
+
+#include <stdbool.h>
+#include <stddef.h>
+#include <stdint.h>
+
+#ifdef __cplusplus
+extern "C" {
+#endif
+
+/* a start in `starts` where the block is absent, or the file refused */
+#define METER_ABSENT 65535
+
+typedef struct meter_check_reply {
+    uint8_t refusal;    /* 0: accepted */
+    uint8_t function;   /* 1 level meter, 2 1/1 octave, 3 1/3 octave; 0 if refused */
+    uint16_t starts[9]; /* start words of 01, 02, 03, 04, 05, 07, 0E or 10, 09 and 0F; 65535 for an absent block */
+    uint32_t at;        /* the refusal's position; 0 if accepted */
+} meter_check_reply;
+
+typedef struct meter_title_reply {
+    bool from_file; /* the text is a part of the file; else it is the whole label */
+    size_t at;      /* the byte of the file at which it starts; 0 for the label */
+    size_t len;     /* its length in bytes */
+} meter_title_reply;
+
+typedef struct meter_sheet_reply {
+    uint8_t refusal; /* 0: written */
+    bool finished;   /* these lines are the last ones, or there were none left; false if refused */
+    uint32_t at;     /* the refusal's position; 0 if written */
+    uint32_t lines;  /* lines written */
+    size_t bytes;    /* bytes written */
+} meter_sheet_reply;
+
+typedef struct meter_slim_reply {
+    uint8_t refusal; /* 0: written */
+    uint32_t at;     /* the refusal's position; 0 if written */
+    size_t bytes;    /* the byte length of the slim copy; 0 if refused */
+} meter_slim_reply;
+
+/* Whether a file is accepted: its function and the starts of its blocks, or its first fault. */
+meter_check_reply meter_check(const uint8_t *file, size_t file_len);
+
+/* Where the title stands: the text of the file before its first null, or the label where that is empty or the file refused. */
+meter_title_reply meter_title(const uint8_t *file, size_t file_len, const uint8_t *label, size_t label_len);
+
+/*
+ * Writes lines n, n + 1, .. of the sheet, as many whole ones as fit. The first call asks from line 0 on, the next from n + lines on,
+ * until one is finished.
+ */
+meter_sheet_reply meter_sheet(const uint8_t *file, size_t file_len, const uint8_t *label, size_t label_len, uint32_t n, uint8_t *out, size_t out_len);
+
+/* Writes the slim copy. */
+meter_slim_reply meter_slim(const uint8_t *file, size_t file_len, uint8_t *out, size_t out_len);
+
+#ifdef __cplusplus
+}
+#endif
+
+#endif
