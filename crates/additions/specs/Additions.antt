@@ -51,23 +51,24 @@ pub data Records : ℕ → List ℕ → List ℕ → Type 0 where
   next : {k : ℕ} (h : ℕ) (s more : List ℕ) {t t′ : List ℕ} → high h ≡ suc (length s) → Records k t t′
       → Records (suc k) (h ∷ s ++ t) (recounted (h ∷ s ++ more) ++ t′)
 
--- the raw words behind a block stay as they are
+-- a block: as it was; a table block, lengthened at its end and at the ends of its records; or the title block, with any words in which
+-- the same text stands before a null. "Histograms and logger contents stay as they are": raw words are those that were there
 pub data Grown : Part → Part → Type 0 where
   as-is : (p : Part) → Grown p p
   table : (h w : ℕ) {t t′ : List ℕ} (raw : List ℕ) → mayGrow (rowOf (low h)) ≡ true → Records (rowOf (low h) .subs .count) t t′
       → Grown (record { words = h ∷ (w ∷ t); raw = raw }) (record { words = recounted (h ∷ (w ∷ t′)); raw = raw })
-  -- any words in which the same text stands before a null
   title : (h : ℕ) (t t′ raw : List ℕ) → isText (rowOf (low h)) ≡ true → nulled t′ ≡ true → beforeNull (bytesOf t′) ≡ beforeNull (bytesOf t)
       → Grown (record { words = h ∷ t; raw = raw }) (record { words = recounted (h ∷ t′); raw = raw })
 
 -- ---- what may become of a file
 
+-- blocks, one after the other, and "at block boundaries" others that are put there
 pub data Adds : List Part → List Part → Type 0 where
   end : Adds [] []
   block : {p p′ : Part} {ps ps′ : List Part} → Grown p p′ → Adds ps ps′ → Adds (p ∷ ps) (p′ ∷ ps′)
   put : (b : List ℕ) {ps ps′ : List Part} → mayBePut b ≡ true → Adds ps ps′ → Adds ps (record { words = b; raw = [] } ∷ ps′)
 
--- nothing stands before the file header
+-- "not before the file header": the first block is the first
 pub data Additions : List Part → List Part → Type 0 where
   additions : {p p′ : Part} {ps ps′ : List Part} → Grown p p′ → Adds ps ps′ → Additions (p ∷ ps) (p′ ∷ ps′)
 
@@ -75,8 +76,8 @@ pub data Additions : List Part → List Part → Type 0 where
 unfoldable pub partsIn : List ℕ → List Part
 partsIn file = partsOf (walked (wordsOf file))
 
--- g is f with additions: the words of its blocks and the end marker, "While .. the file within 65,536 bytes". A count is one
--- byte of a word, so it is 255 at most
+-- g is f with additions: the words of the new blocks and, behind them, the end marker; "While .. the file within 65,536 bytes". A count
+-- is one byte of a word, so it is within 255
 pub record Added (f g : List ℕ) : Type 0 where
   pub parts : List Part
   pub adds : Additions (partsIn f) parts

@@ -4,7 +4,6 @@ use mathlib.Core.Path.{_≡_, refl, ap, _∙_}
 use Prim.Native.Nat.{ℕ}
 use native.Mathlib.Omega.{arith}
 use lib.ListN.{length, drop}
-use Rattle.accept.specs.declared.judge.State.{State}
 use Rattle.accept.specs.declared.judge.Judged.{Judged}
 use Rattle.accept.specs.declared.judge.Judged.the-variants.{Passed, Denied}
 use Rattle.accept.specs.declared.check.Answer.the-variants.{Accepted}
@@ -17,6 +16,7 @@ use Rattle.additions.proofs.Unchanged.{additions-accepted}
 use Rattle.words.specs.Words.{bytesOf}
 use Rattle.slims.specs.Copy.{slimWords, slimCopy, Slimmed}
 use Rattle.slims.specs.Copy as Copy
+use Rattle.slims.specs.Asked as Asked
 use Rattle.slims.specs.declared.Reply as SlimAnswer
 use Rattle.slims.proofs.ReplyLaws.{slimmed-one}
 use Rattle.pages.specs.Rows.{texts}
@@ -40,16 +40,12 @@ additions-change-nothing f g accepted added =
 
 -- ---- the calls
 
--- an accepted file goes through
-pub record Through (f : List ℕ) : Type 0 where
-  pub state : State
-  pub passed : surveyed f ≡ Passed state
-
-accepted-through : (f : List ℕ) → Accepts f → Through f
+-- the walk over an accepted file passes
+accepted-passes : (f : List ℕ) → Accepts f → Asked.Accepted f
 unfolding verdict answered
-accepted-through f a = go (surveyed f) refl (a .answer)
+accepted-passes f a = go (surveyed f) refl (a .answer)
   where
-    go : (j : Judged) → surveyed f ≡ j → answered j ≡ Accepted (a .found) → Through f
+    go : (j : Judged) → surveyed f ≡ j → answered j ≡ Accepted (a .found) → Asked.Accepted f
     go (Passed s) e h = record { state = s; passed = e }
     go (Denied num at) e h = let z : _≡_ {A = ℕ} 0 1 = cc in absurd (omega arith)
 
@@ -61,8 +57,8 @@ module _ (f g : List ℕ) (accepted : Accepts f) (added : Added f g) where
   pub same-sheet : {label : List ℕ} {n : ℕ} {before a b : List ℕ} {r q : SheetAnswer.Reply} → Sheeted f label n before a r → Sheeted g label n before b q → (r ≡ q) × (a ≡ b)
   unfolding Sheet.sheetReply Sheet.replied
   same-sheet {label} {n} {before} {a} {b} {r} {q} s t =
-      let x = accepted-through f accepted in
-      let y = accepted-through g (same .accepted) in
+      let x = accepted-passes f accepted in
+      let y = accepted-passes g (same .accepted) in
       let reply : Sheet.sheetReply g label n (length before) ≡ Sheet.sheetReply f label n (length before) = rw (x .passed, y .passed, same .sheet label) in
       let output : b ≡ Sheet.outputBy (drop n (sheetTexts f label)) before (Sheet.sheetReply f label n (length before)) = rw (← reply, ← same .sheet label) (t .output-is) in
       sheeted-one s (record { answer-is = t .answer-is ∙ ap Sheet.values reply; output-is = output })
@@ -71,8 +67,8 @@ module _ (f g : List ℕ) (accepted : Accepts f) (added : Added f g) where
   pub same-slim : {before a b : List ℕ} {r q : SlimAnswer.Reply} → Slimmed f before a r → Slimmed g before b q → (r ≡ q) × (a ≡ b)
   unfolding Copy.slimReply Copy.replied
   same-slim {before} {a} {b} {r} {q} s t =
-      let x = accepted-through f accepted in
-      let y = accepted-through g (same .accepted) in
+      let x = accepted-passes f accepted in
+      let y = accepted-passes g (same .accepted) in
       let reply : Copy.slimReply g (length before) ≡ Copy.slimReply f (length before) = rw (x .passed, y .passed, same .copy) in
       let output : b ≡ Copy.outputBy (slimCopy f) before (Copy.slimReply f (length before)) = rw (← reply, ← same .copy) (t .output-is) in
       slimmed-one s (record { answer-is = t .answer-is ∙ ap Copy.values reply; output-is = output })

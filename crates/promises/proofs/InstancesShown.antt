@@ -1,5 +1,5 @@
 -- Each of the instances is an accepted file, and that file with every kind of addition. Assumes nothing.
-use mathlib.Core.List.{List, [], _∷_}
+use mathlib.Core.List.{List, [], _∷_, _++_}
 use mathlib.Core.Bool.{true}
 use mathlib.Core.Path.{_≡_, refl}
 use Prim.Native.Nat.{ℕ, _≤_}
@@ -74,8 +74,8 @@ logger-grown = table-grown 0x0F 0 _ refl refl (rest _ words)
 -- ---- files
 
 module _ (file : List ℕ → List ℕ → List Part) (a : Additions (file [] null) (behindHeader (file words others))) where
-  -- by computation: the blocks of the file, that it is accepted, and that the new one is short and of bytes
-  shown : partsIn (fileOf (file [] null)) ≡ file [] null → accepts (surveyed (fileOf (file [] null))) ≡ true → length (joined (behindHeader (file words others))) ≤ 32768 → areBytes (fileOf (behindHeader (file words others))) ≡ true → Shown (grown file)
+  -- by computation: the blocks of the file, that it is accepted, that the new one is short, and that both are bytes
+  shown : partsIn (fileOf (file [] null)) ≡ file [] null → accepts (surveyed (fileOf (file [] null))) ≡ true → length (joined (behindHeader (file words others))) ≤ 32768 → areBytes (fileOf (file [] null) ++ fileOf (behindHeader (file words others))) ≡ true → Shown (grown file)
   unfolding grown fileOf
   shown parts accepted few all =
       let bytes = bytes-length (joined (behindHeader (file words others))) in

@@ -12,11 +12,11 @@ pub record Instance : Type 0 where
   pub before : List Part
   pub after : List Part
 
--- an accepted file, and that file with additions
+-- an accepted file, and that file with additions; both are bytes
 pub record Shown (i : Instance) : Type 0 where
   pub accepted : Accepts (fileOf (i .before))
   pub added : Added (fileOf (i .before)) (fileOf (i .after))
-  pub bytes : areBytes (fileOf (i .after)) ≡ true
+  pub bytes : areBytes (fileOf (i .before) ++ fileOf (i .after)) ≡ true
 
 abbrev pub AllShown : List Instance → Type 0
 AllShown [] = Unit {0}

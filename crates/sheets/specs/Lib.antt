@@ -1,3 +1,2 @@
 -- What the clauses of the crate cite. Assumes nothing.
 pub mod Reply
-pub mod Asked

@@ -1,23 +1,20 @@
 // Sheet: the lines of a file's sheet, as many whole ones as fit.
-mod read;
-mod section;
-
-use crate::section::buffer_section;
-use crate::section::head_section;
-use crate::section::result_section;
-use crate::section::spectrum_section;
-use crate::section::statistics_section;
 use accept::judge::Judged;
 use accept::judge::State;
 use accept::judge::survey;
 use runs::Run;
+use sections::buffer_section;
+use sections::head_section;
+use sections::result_section;
+use sections::spectrum_section;
+use sections::statistics_section;
 use text::fit::Progress;
 ghost use Prim.Native.Nat.{_≤_};
 ghost use lib.ListN.{length, drop};
 ghost use Rattle.text.specs.Fit.{Filled};
 ghost use Rattle.pages.specs.Sheet.{sheetTexts};
 ghost use Rattle.sheets.specs.Reply.{Sheeted};
-ghost use Rattle.sheets.specs.Asked.{Accepted};
+ghost use Rattle.sections.specs.Asked.{Accepted};
 
 // The answer of Sheet: how many lines and bytes were written and whether they are the last, or a refusal.
 pub enum Reply {
