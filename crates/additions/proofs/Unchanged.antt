@@ -52,8 +52,8 @@ module _ (d : Due) (s : Setup) (p : Part) (l : rowOf (low (wordOf p)) .listed �
   passed-over ps = rw (l, first .no-header)
 
   unlisted-put : {ps ps′ : List Part} → Whole p → Unchanged d s ps ps′ → Unchanged d s ps (p ∷ ps′)
-  unfolding takes passedOver slims slimPart
-  unlisted-put w u = record { taken = rw (l, first .no-header) (u .taken); held = rw l (u .held); wholes = (w, u .wholes) }
+  unfolding slims slimPart
+  unlisted-put {ps′ = ps′} w u = record { taken = passed-over ps′ ∙ u .taken; held = rw l (u .held); wholes = (w, u .wholes) }
 
   unlisted-kept : {ps ps′ : List Part} → Unchanged d s ps (p ∷ ps′) → Unchanged d s (p ∷ ps) (p ∷ ps′)
   unfolding slims slimPart
