@@ -1,0 +1,6 @@
+// Converts the files that its arguments name, and says what came of each. The script ./desk calls it.
+use desks::desk;
+
+fn main() {
+    desk();
+}

@@ -1,0 +1,21 @@
+-- `fetch` meets its contract. Assumes nothing.
+use Prim.Native.Nat.{_-_}
+use lib.ListN.{length-take}
+use native.Mathlib.Omega.{arith}
+use borrow.Author.Needs.{needs}
+use Rattle.desks.proofs.fetch.Statement.{statement}
+use Rattle.desks.proofs.fetch.Tie as tie
+
+part-convert-end : tie.Need-part-convert-end
+part-convert-end c =
+    let s = c .before .before .before .before .before .before in
+    omega (arith, rw (c .before .before .n .given .1) at (s .load .ensures))
+
+convert-requires : tie.Need-convert-requires
+convert-requires c κs =
+    let s = c .before .before .before .before .before .before .before .before in
+    let pre = s .before .before .before .before .before .before .before .pre in
+    (pre .0, omega (arith, pre .1, length-take (c .before .before .before .before .n .given .0 .0 - 0) (c .before .before .before .before .before .before .before .before .load .last .1 .0), s .load .kept), pre .2)
+
+pub fetch-spec : {M : Type 1} → statement M
+fetch-spec = tie.close (tie.spec (λ c κs. search needs) (λ c. search needs) (λ c. search needs) (λ c. search needs) (λ c. search needs) part-convert-end convert-requires (λ c. search needs) (λ c. search needs) (λ c. search needs) (λ c. search needs) (λ c. search needs))
