@@ -1,4 +1,4 @@
-"""Writes what the gate's programs read and what they must print (crates/PROGRAM/stdin, stdout), and the table of pairs
+"""Writes what the gate's programs read and what they must print (crates/PROGRAM/stdin, args, data/, stdout), and the table of pairs
 (tests/PAIRS.md).
 
 Run it from the repository's root: python3 tests/make.py
@@ -13,6 +13,7 @@ sys.dont_write_bytecode = True  # before the modules beside this one: a run writ
 
 from blocks import END, OFF, SUB, buffer_file, free, lengthen, result_file, title
 from cases import checked_file_3, checked_file_8, checked_file_9, good_cases, hard_cases
+from desk import write_desk, write_tries
 from pairs import CLASSES, data_of, good_files, pairs
 from sheets import answer, asks
 from two_faults import two_faults
@@ -204,6 +205,8 @@ def main():
     write_asks()
     write_added()
     write_checked_files()
+    write_desk()
+    write_tries()
     write_table(ones, twos, hard, good, kinds)
 
 
