@@ -96,7 +96,7 @@ module _ {file label : List ℕ} {n room : ℕ} {p : Progress} (w : Success file
   sheet-done f =
       let ls = drop n (sheetTexts file label) in
       let all : n + p .lines ≡ length (sheetTexts file label) =
-          rw (w .came) (omega (arith, eqb-true (fit room ls) (length ls) (sym (ap (λ (q : Progress). q .finished) (w .came)) ∙ f), length-drop n (sheetTexts file label))) in
+      rw (w .came) (omega (arith, eqb-true (fit room ls) (length ls) (sym (ap (λ (q : Progress). q .finished) (w .came)) ∙ f), length-drop n (sheetTexts file label))) in
       rw (w .passed, le-ltb 507 (length label) (w .brief)) (ap Converted all)
 
 -- ---- Slim

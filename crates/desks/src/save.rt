@@ -13,7 +13,7 @@ ghost use Prim.Native.Nat.{_+_, _≤_};
 ghost use lib.ListN.{length};
 ghost use Rattle.text.specs.Text.{Wrote};
 ghost use Rattle.desks.specs.declared.Task.the-variants.{Sheets, Slims};
-ghost use Rattle.desks.specs.Desk.{ending, outcomeOf, Said};
+ghost use Rattle.desks.specs.Desk.{ending, partPath, outcomeOf, Said};
 
 fn put_ending(out: &mut [u8], task: Task) -> usize
     requires { ⌜ 5 ≤ length (now out) ⌝ }
@@ -35,14 +35,13 @@ pub fn put_path(out: &mut [u8], name: &[u8], task: Task) -> usize
     a + put_ending(&mut out[a..], task)
 }
 
-// The path of it while it is not complete. No other desk at work on the same file writes there.
-fn put_part_path(out: &mut [u8], path: &[u8]) -> usize
+// The path of it while it is not complete. It has the number of this process, so that no other desk writes there.
+fn put_part_path(out: &mut [u8], path: &[u8], process: u32) -> usize
     requires { ⌜ length (now path) + 26 ≤ length (now out) ⌝ }
-    ensures { λ r. ⌜ r ≤ length (now (out .exit)) ⌝ }
+    ensures { λ r. ⌜ Wrote (partPath (now (path .entry)) process) (length (now (path .entry)) + 26) (now (out .entry)) (now (out .exit)) r ⌝ }
 {
     let a = put_bytes(out, path);
     let b = a + put_bytes(&mut out[a..], b".");
-    let process = natural(libc::getpid());
     let c = b + put_decimal(&mut out[b..], process as u64);
     c + put_bytes(&mut out[c..], b".part")
 }
@@ -124,7 +123,7 @@ pub fn save_sheet<'a>(path: &[u8], file: &'a [u8], label: &'a [u8], out: &mut [u
     ensures { λ r. ⌜ Said (outcomeOf Sheets (now (file .entry)) (now (label .entry))) r ⌝ }
 {
     let mut part = [0u8; 4127];
-    let n = put_part_path(&mut part, path);
+    let n = put_part_path(&mut part, path, natural(libc::getpid()));
     let fd = os::create(&part[0..n]);
     if fd < 0 {
         return Outcome::Unwritten { error: error() };
@@ -138,7 +137,7 @@ pub fn save_slim(path: &[u8], file: &[u8], out: &mut [u8]) -> Outcome
     ensures { λ r. ⌜ Said (outcomeOf Slims (now (file .entry)) []) r ⌝ }
 {
     let mut part = [0u8; 4127];
-    let n = put_part_path(&mut part, path);
+    let n = put_part_path(&mut part, path, natural(libc::getpid()));
     let fd = os::create(&part[0..n]);
     if fd < 0 {
         return Outcome::Unwritten { error: error() };

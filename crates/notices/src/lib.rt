@@ -94,7 +94,10 @@ fn put_meaning(out: &mut [u8], num: u8) -> usize
     match num {
         1 => put_bytes(out, b"the number of bytes is odd, or over 65,536"),
         2 => put_bytes(out, b"the file ends too early"),
-        3 => put_bytes(out, b"a block is shorter than its table, or its length or title is wrong"),
+        3 => put_bytes(
+            out,
+            b"a block is shorter than its table, or its length or title is wrong",
+        ),
         4 => put_bytes(out, b"a block is missing, or out of order"),
         5 => put_bytes(out, b"the meter is not a 945"),
         6 => put_bytes(out, b"a block has another layout than its table"),
@@ -228,7 +231,14 @@ fn put_older(out: &mut [u8], path: &[u8]) -> usize
 }
 
 // The line of a file; `path` is a sheet or a slim copy that stands beside it from before, or nothing.
-pub fn put_notice(out: &mut [u8], i: usize, files: usize, name: &[u8], o: Outcome, path: &[u8]) -> usize
+pub fn put_notice(
+    out: &mut [u8],
+    i: usize,
+    files: usize,
+    name: &[u8],
+    o: Outcome,
+    path: &[u8],
+) -> usize
     requires { ⌜ 189 + length (now name) + length (now path) ≤ length (now out) ⌝ }
     ensures { λ r. ⌜ Wrote (notice i files (now (name .entry)) o (now (path .entry))) (189 + length (now (name .entry)) + length (now (path .entry))) (now (out .entry)) (now (out .exit)) r ⌝ }
 {

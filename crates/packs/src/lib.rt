@@ -1,6 +1,7 @@
 // Packs of test data on standard input: items one behind the other, each three bytes of length, low byte first, and so many
 // bytes; and whether two rows of bytes are the same.
 use libc::STDIN_FILENO;
+ghost use mathlib.Core.Bool.{true, false};
 ghost use mathlib.Core.Path.{_≡_};
 ghost use Prim.Native.Nat.{_<_, _≤_};
 ghost use lib.ListN.{length};
@@ -29,7 +30,9 @@ pub fn read_item(row: &mut [u8]) -> usize
 }
 
 // Whether two slices have the same bytes.
-pub fn is_same(a: &[u8], b: &[u8]) -> bool {
+pub fn is_same(a: &[u8], b: &[u8]) -> bool
+    ensures { λ r. ⌜ (r ≡ true → now (a .entry) ≡ now (b .entry)) × (r ≡ false → now (a .entry) ≡ now (b .entry) → ⊥) ⌝ }
+{
     if a.len() != b.len() {
         return false;
     }
