@@ -13,7 +13,7 @@ ghost use Rattle.text.specs.Ascii.{ascii};
 ghost use Rattle.text.specs.Decimal.{decimal};
 ghost use Rattle.text.specs.Text.{Wrote};
 ghost use Rattle.names.specs.Names.{named};
-ghost use Rattle.notices.specs.Notices.{meanings, causes, refused, cause, outcome, place, older, isDone, isRefused, counted, total, notice, summary};
+ghost use Rattle.notices.specs.Notices.{meanings, causes, refused, cause, outcome, place, older, kindOf, counted, total, notice, summary};
 
 // What came of a file. An error is the system's number of it.
 pub enum Outcome {
@@ -25,7 +25,35 @@ pub enum Outcome {
     Unwritten { error: u16 },
 }
 
-// How many files were converted, copied or accepted, how many refused, and how many could not be read or written.
+// How it is counted: converted, copied or accepted; refused; not read or written.
+pub enum Kind {
+    Done,
+    Refused,
+    Failed,
+}
+
+fn kind_of(o: Outcome) -> Kind
+    ensures { λ r. ⌜ r ≡ kindOf o ⌝ }
+{
+    match o {
+        Outcome::Converted { lines } => Kind::Done,
+        Outcome::Copied { bytes } => Kind::Done,
+        Outcome::Accepted => Kind::Done,
+        Outcome::Refused { num, at } => Kind::Refused,
+        Outcome::Unread { error } => Kind::Failed,
+        Outcome::Unwritten { error } => Kind::Failed,
+    }
+}
+
+pub fn is_done(o: Outcome) -> bool {
+    match kind_of(o) {
+        Kind::Done => true,
+        Kind::Refused => false,
+        Kind::Failed => false,
+    }
+}
+
+// How many files of each kind.
 pub struct Tally {
     pub done: usize,
     pub refused: usize,
@@ -49,41 +77,12 @@ impl Tally {
         ensures { λ r. ⌜ (r ≡ counted self o) × (total r ≡ total self + 1) ⌝ }
     {
         let mut t = self;
-        if is_done(o) {
-            t.done += 1;
-        } else if is_refused(o) {
-            t.refused += 1;
-        } else {
-            t.failed += 1;
+        match kind_of(o) {
+            Kind::Done => t.done += 1,
+            Kind::Refused => t.refused += 1,
+            Kind::Failed => t.failed += 1,
         }
         t
-    }
-}
-
-// Whether the file was converted, copied or accepted.
-pub fn is_done(o: Outcome) -> bool
-    ensures { λ r. ⌜ r ≡ isDone o ⌝ }
-{
-    match o {
-        Outcome::Converted { lines } => true,
-        Outcome::Copied { bytes } => true,
-        Outcome::Accepted => true,
-        Outcome::Refused { num, at } => false,
-        Outcome::Unread { error } => false,
-        Outcome::Unwritten { error } => false,
-    }
-}
-
-fn is_refused(o: Outcome) -> bool
-    ensures { λ r. ⌜ r ≡ isRefused o ⌝ }
-{
-    match o {
-        Outcome::Converted { lines } => false,
-        Outcome::Copied { bytes } => false,
-        Outcome::Accepted => false,
-        Outcome::Refused { num, at } => true,
-        Outcome::Unread { error } => false,
-        Outcome::Unwritten { error } => false,
     }
 }
 
