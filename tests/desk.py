@@ -20,7 +20,7 @@ REFUSED = {'no-01-odd-length': 'the number of bytes is odd, or over 65,536',
            'no-05-unit-type': 'the meter is not a 945',
            'no-06-word-1-of-07': 'a block has another layout than its table',
            'no-07-05-sub-block-2-id': 'a profile record has a wrong id or length',
-           'no-08-04-filter': 'a setting is none of its table',
+           'no-08-04-filter': 'a value is not one that its table allows',
            'no-09-word-after-the-end-marker': 'something stands behind the end marker'}
 # one too long for a folder's entry, one for any path
 LONG, LONGER = 'n' * 300 + '.svn', 'm' * 5000 + '.svn'
@@ -33,8 +33,10 @@ def vector(name, part):
 
 def sheet(name):
     """The sheet of a vector, with our label where its title is empty."""
-    own = b'title=' + vector(name, 'label') + b'\n'
-    return vector(name, 'sheet').replace(own, f'title={LABEL}\n'.encode('ascii')) if vector(name, 'title') == vector(name, 'label') else vector(name, 'sheet')
+    text, label = vector(name, 'sheet'), vector(name, 'label')
+    if vector(name, 'title') != label:
+        return text
+    return text.replace(b'title=' + label + b'\n', f'title={LABEL}\n'.encode('ascii'))
 
 
 def refusal(name):
@@ -80,14 +82,16 @@ def write_tries():
     hall, cut = vector(GOOD[0], 'svn'), list(REFUSED)[1]
     files = {f'{name}.svn': vector(name, 'svn') for name in (*GOOD, *REFUSED)}
     files |= {'long.svn': bytes(65538), 'folder/kept': b'no meter file\n', 'shut.svn': hall, 'locked/hall.svn': hall,
-              'taken.svn': hall, 'taken.svn.csv/kept': b'a folder where a sheet would go\n', 'taken.svn.slim/kept': b'likewise\n',
+              'taken.svn': hall, 'taken.svn.csv/kept': b'in the place of a sheet\n',
+              'taken.svn.slim/kept': b'in the place of a slim copy\n',
               f'{GOOD[0]}.svn.csv': OLDER, f'{cut}.svn.csv': OLDER}
     older = {(f'{cut}.svn', '.csv'), ('taken.svn', '.csv'), ('taken.svn', '.slim')}
     fails = 'not written in its folder: {}'.format
     checks = lines('accepted', '.csv', lambda name: 'accepted', lambda cause: 'accepted', older - {('taken.svn', '.csv')})
     slims = lines('copied', '.slim', lambda name: f'{len(vector(name, "slim"))} bytes', fails, older)
     sheets = lines('converted', '.csv', lambda name: f'{sheet(name).count(10)} lines', fails, older)
-    back = {f'{name}.svn{ending}': content for name in GOOD for ending, content in (('.csv', sheet(name)), ('.slim', vector(name, 'slim')))}
+    back = {f'{name}.svn{ending}': content for name in GOOD
+            for ending, content in (('.csv', sheet(name)), ('.slim', vector(name, 'slim')))}
     back[f'{cut}.svn.csv'] = OLDER
     names = [LONGER if name == LONGER[:60] else name for name, _ in outcomes(str, str)]
     written = b''.join(f'{name}:\n'.encode('ascii') + content for name, content in back.items())

@@ -101,7 +101,7 @@ fn put_meaning(out: &mut [u8], num: u8) -> usize
         5 => put_bytes(out, b"the meter is not a 945"),
         6 => put_bytes(out, b"a block has another layout than its table"),
         7 => put_bytes(out, b"a profile record has a wrong id or length"),
-        8 => put_bytes(out, b"a setting is none of its table"),
+        8 => put_bytes(out, b"a value is not one that its table allows"),
         9 => put_bytes(out, b"something stands behind the end marker"),
         10 => put_bytes(out, b"the label is over 507 bytes"),
         11 => put_bytes(out, b"the output is too short"),
