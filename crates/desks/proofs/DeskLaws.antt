@@ -11,7 +11,6 @@ use Rattle.words.proofs.WordLaws.{Below}
 use Rattle.text.specs.declared.fit.Progress.{Progress}
 use Rattle.text.specs.Fit.{fit}
 use Rattle.runs.proofs.FilledLaws.{fit-le}
-use Rattle.accept.specs.declared.judge.State.{State}
 use Rattle.accept.specs.declared.judge.Judged.{Judged}
 use Rattle.accept.specs.declared.judge.Judged.the-variants.{Passed, Denied}
 use Rattle.accept.specs.Judge.{surveyed}
@@ -33,7 +32,7 @@ use Rattle.slims.specs.Copy.{slimCopy, roomFor, slimReply, Slimmed}
 use Rattle.slims.specs.Copy.{replied as slim·replied}
 use Rattle.slims.proofs.ReplyLaws.{values-one as slim·values-one, copy-no-longer}
 use Rattle.notices.specs.declared.Outcome.{Outcome}
-use Rattle.notices.specs.declared.Outcome.the-variants.{Converted, Copied, Accepted, Refused, Unread, Unwritten}
+use Rattle.notices.specs.declared.Outcome.the-variants.{Converted, Copied, Accepted, Refused}
 use Rattle.desks.specs.declared.Task.{Task}
 use Rattle.desks.specs.declared.Task.the-variants.{Sheets, Slims, Checks}
 use Rattle.desks.specs.Desk.{doneWith, byVerdict, outcomeOf, Said, as-due, unwritten}

@@ -1,7 +1,7 @@
 -- `put_files` meets its contract. Assumes nothing.
 use borrow.Author.Needs.{needs}
 use borrow.Author.Tests.{eq-eqb, ne-eqb}
-use Rattle.text.proofs.Writing.{_then_, at-most}
+use Rattle.text.proofs.Writing.{at-most}
 use Rattle.notices.proofs.put_files.Statement.{statement}
 use Rattle.notices.proofs.put_files.Tie as tie
 

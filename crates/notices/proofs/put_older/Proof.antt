@@ -2,7 +2,7 @@
 use borrow.Author.Needs.{needs}
 use borrow.Author.Tests.{eq-eqb, ne-eqb}
 use Rattle.notices.specs.Notices.{older}
-use Rattle.text.proofs.Writing.{_then_, at-most, nothing}
+use Rattle.text.proofs.Writing.{at-most, nothing}
 use Rattle.notices.proofs.put_older.Statement.{statement}
 use Rattle.notices.proofs.put_older.Tie as tie
 
