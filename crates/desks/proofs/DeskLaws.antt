@@ -2,7 +2,7 @@
 use mathlib.Core.Bool.{Bool, true, false, cond}
 use mathlib.Core.List.{List, []}
 use mathlib.Core.Path.{_≡_, refl, sym, ap, subst, _∙_}
-use Prim.Native.Nat.{ℕ, _+_, _≤_}
+use Prim.Native.Nat.{ℕ, _+_, _≤_, zero-le}
 use native.Mathlib.Omega.{arith}
 use borrow.Author.Tests.{le-ltb, eqb-true}
 use lib.Dec.{ltb}
@@ -32,15 +32,21 @@ use Rattle.slims.specs.Copy.{slimCopy, roomFor, slimReply, Slimmed}
 use Rattle.slims.specs.Copy.{replied as slim·replied}
 use Rattle.slims.proofs.ReplyLaws.{values-one as slim·values-one, copy-no-longer}
 use Rattle.notices.specs.declared.Outcome.{Outcome}
-use Rattle.notices.specs.declared.Outcome.the-variants.{Converted, Copied, Accepted, Refused}
+use Rattle.notices.specs.declared.Outcome.the-variants.{Converted, Copied, Accepted, Refused, Unwritten}
 use Rattle.desks.specs.declared.Task.{Task}
 use Rattle.desks.specs.declared.Task.the-variants.{Sheets, Slims, Checks}
-use Rattle.desks.specs.Desk.{doneWith, byVerdict, outcomeOf, Said, as-due, unwritten}
+use Rattle.desks.specs.Desk.{doneWith, byVerdict, outcomeOf, Said, as-due, unwritten, Told, unread, of}
 
 -- what could not be written after all
 pub said-on : {a b c : Outcome} → Said a b → Said b c → Said a c
 said-on s (unwritten error) = unwritten error
 said-on {a} s (as-due o e) = subst (Said a) (sym e) s
+
+-- the same of a file by its name
+pub told-on : {task : Task} {label row : List ℕ} {a b : Outcome} → Told task label row a → Said a b → Told task label row b
+told-on (unread error) (unwritten e) = of 0 (Unwritten e) zero-le (unwritten e)
+told-on {task} {label} {row} (unread error) (as-due o e) = subst (Told task label row) (sym e) (unread error)
+told-on {b = b} (of n o h s) t = of n b h (said-on s t)
 
 -- ---- Check
 

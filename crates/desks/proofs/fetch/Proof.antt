@@ -3,6 +3,7 @@ use Prim.Native.Nat.{_-_}
 use lib.ListN.{length-take}
 use native.Mathlib.Omega.{arith}
 use borrow.Author.Needs.{needs}
+use Rattle.desks.specs.Desk.{unread, of}
 use Rattle.desks.proofs.fetch.Statement.{statement}
 use Rattle.desks.proofs.fetch.Tie as tie
 
@@ -17,5 +18,14 @@ convert-requires c κs =
     let pre = s .before .before .before .before .before .before .before .pre in
     (pre .0, omega (arith, pre .1, length-take (c .before .before .before .before .n .given .0 .0 - 0) (c .before .before .before .before .before .before .before .before .load .last .1 .0), s .load .kept), pre .2)
 
+returns : tie.Need-returns
+returns c = unread _
+
+returns-2 : tie.Need-returns-2
+returns-2 c =
+    let k = c .before .before in
+    let n = k .before .before .before .before .before in
+    of (n .n .given .0 .0 - 0) _ (omega (arith, rw (n .n .given .1) at (n .before .before .before .before .load .ensures))) (k .convert .ensures)
+
 pub fetch-spec : {M : Type 1} → statement M
-fetch-spec = tie.close (tie.spec (λ c κs. search needs) (λ c. search needs) (λ c. search needs) (λ c. search needs) (λ c. search needs) part-convert-end convert-requires (λ c. search needs) (λ c. search needs) (λ c. search needs) (λ c. search needs) (λ c. search needs))
+fetch-spec = tie.close (tie.spec (λ c κs. search needs) (λ c. search needs) (λ c. search needs) (λ c. search needs) (λ c. search needs) part-convert-end convert-requires (λ c. search needs) returns (λ c. search needs) (λ c. search needs) returns-2)
