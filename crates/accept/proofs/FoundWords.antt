@@ -14,8 +14,10 @@ use Rattle.rules.specs.Block.{recordAt, recordWord}
 use Rattle.rules.specs.Slim.{Slim, slimBy, headBy, wordIn, subWordIn}
 use Rattle.words.proofs.Choice.{cond-second, or-neither}
 use Rattle.rules.proofs.Reading.{plain-word, record-word}
-use Rattle.tables.specs.Table.{rowOf}
-use Rattle.tables.specs.Setup.{slimOf}
+use Rattle.tables.specs.declared.setup.Setup.{Setup}
+use Rattle.tables.specs.Table.{rowOf, kindOf}
+use Rattle.tables.specs.Setup.{rowFor, slimOf}
+use Rattle.tables.proofs.TableLaws.{row-exact, Plain, Three}
 use Rattle.tables.specs.Order.{keyOf}
 use Rattle.accept.specs.declared.judge.State.{State}
 use Rattle.accept.specs.declared.judge.Judged.the-variants.{Passed}
@@ -68,38 +70,50 @@ no-record zero = refl
 no-record (suc p) = no-record p
 
 -- the files that may be accepted have 32,768 words at most
-module _ {ws : List ℕ} (few : length ws ≤ 32768) {start : ℕ} {x : Slim} where
+module _ {ws : List ℕ} (few : length ws ≤ 32768) {model start : ℕ} {x : Slim} where
   module _ (id : ℕ) (small : id < 256) (b : id ≡ 0x0B → ⊥) (e : id ≡ 0x0E → ⊥) where
-    row-there : There ws id start x → x ≡ slimBy (rowOf id) (blockAt ws start) (rawAt ws start)
-    unfolding slimOf
-    row-there t = t .slim ∙ ap (λ (i : ℕ). slimBy (rowOf i) (blockAt ws start) (rawAt ws start)) (place-id _ id small b e (t .place-is))
+    id-there : There ws model id start x → low (getD (blockAt ws start) 0 0) ≡ id
+    id-there t = place-id _ id small b e (t .place-is)
 
-    -- word k of a block with no sub-blocks
-    pub found-word : rowOf id .exact ≡ false → rowOf id .text ≡ false → rowOf id .subs .count ≡ 0
-        → (k : ℕ) → 0 < k → k < rowOf id .least → Found ws id start x → wordIn x k ≡ getD (blockAt ws start) k 0
-    unfolding wordIn
-    found-word ex tx su k h l (there t) = ap (λ (y : Slim). wordIn y k) (row-there t) ∙ plain-word (rowOf id) (blockAt ws start) (rawAt ws start) ex tx su k h l
-    found-word ex tx su k h l (nowhere a n) = rw (n, none-at ws start (omega arith))
+    -- word k of a block with no sub-blocks, in whichever model
+    pub found-word : (n : ℕ) → ((s : Setup) (w : ℕ) → low w ≡ id → Plain n (rowFor s w)) → (k : ℕ) → 0 < k → k < n → Found ws model id start x → wordIn x k ≡ getD (blockAt ws start) k 0
+    unfolding wordIn slimOf
+    found-word n p k h l (there t) =
+        let q = p (t .setup) _ (id-there t) in
+        ap (λ (y : Slim). wordIn y k) (t .slim) ∙ plain-word (rowFor (t .setup) (getD (blockAt ws start) 0 0)) (blockAt ws start) (rawAt ws start) (q .exact) (q .text) (q .none) k h (omega (arith, q .least))
+    found-word n p k h l (nowhere a z) = rw (z, none-at ws start (omega arith))
+
+    -- the same where the model is known: for a word that one model's row has alone
+    pub found-word-by : eqb id 0x01 ≡ false → eqb id 0x02 ≡ false → (n : ℕ) → ((s : Setup) (w : ℕ) → s .model ≡ model → low w ≡ id → Plain n (rowFor s w))
+        → (k : ℕ) → 0 < k → k < n → Found ws model id start x → wordIn x k ≡ getD (blockAt ws start) k 0
+    unfolding wordIn slimOf
+    found-word-by f u n p k h l (there t) =
+        let q = p (t .setup) _ (t .by-model f u) (id-there t) in
+        ap (λ (y : Slim). wordIn y k) (t .slim) ∙ plain-word (rowFor (t .setup) (getD (blockAt ws start) 0 0)) (blockAt ws start) (rawAt ws start) (q .exact) (q .text) (q .none) k h (omega (arith, q .least))
+    found-word-by f u n p k h l (nowhere a z) = rw (z, none-at ws start (omega arith))
 
     -- word o of sub-block p, found in the file by the lengths of the sub-blocks before it
-    pub found-record : (p o : ℕ) → p < rowOf id .subs .count → 0 < o → o < rowOf id .subs .least → Found ws id start x
+    pub found-record : (n : ℕ) → ((s : Setup) (w : ℕ) → low w ≡ id → Three n (rowFor s w)) → (p o : ℕ) → p < 3 → 0 < o → o < n → Found ws model id start x
         → subWordIn x p o ≡ recordWord (blockAt ws start) p o
-    unfolding subWordIn recordWord
-    found-record p o h k l (there t) = ap (λ (y : Slim). subWordIn y p o) (row-there t) ∙ record-word (rowOf id) (blockAt ws start) (rawAt ws start) p o h k l
-    found-record p o h k l (nowhere a n) = rw (n, none-at ws start (omega arith), no-record p)
+    unfolding subWordIn recordWord slimOf
+    found-record n m p o h k l (there t) =
+        let q = m (t .setup) _ (id-there t) in
+        ap (λ (y : Slim). subWordIn y p o) (t .slim) ∙ record-word (rowFor (t .setup) (getD (blockAt ws start) 0 0)) (blockAt ws start) (rawAt ws start) p o (omega (arith, q .count)) k (omega (arith, q .least))
+    found-record n m p o h k l (nowhere a z) = rw (z, none-at ws start (omega arith), no-record p)
 
   -- the raw words
-  pub found-raw : (place : ℕ) → Found ws place start x → x .contents ≡ rawAt ws start
+  pub found-raw : (place : ℕ) → Found ws model place start x → x .contents ≡ rawAt ws start
   unfolding slimOf slimBy
   found-raw place (there t) = ap (λ (y : Slim). y .contents) (t .slim)
   found-raw place (nowhere a n) = rw (n, none-behind ws start (omega arith))
 
   -- a histogram, which is kept whole
-  pub found-whole : (place : ℕ) → low place ≡ 0x0B → Found ws place start x → x .head ≡ blockAt ws start
+  pub found-whole : (place : ℕ) → low place ≡ 0x0B → Found ws model place start x → x .head ≡ blockAt ws start
   unfolding slimOf slimBy headBy rowOf
   found-whole place h (there t) =
-      ap (λ (y : Slim). y .head) (t .slim)
-      ∙ ap (λ (i : ℕ). headBy (rowOf i) (blockAt ws start)) (histogram-id (getD (blockAt ws start) 0 0) place h (t .place-is))
+      let w = getD (blockAt ws start) 0 0 in
+      let exact : rowFor (t .setup) w .exact ≡ true = row-exact (t .setup) w ∙ ap (λ (i : ℕ). kindOf i .exact) (histogram-id w place h (t .place-is)) in
+      ap (λ (y : Slim). y .head) (t .slim) ∙ rw exact
   found-whole place h (nowhere a n) = rw (n, none-at ws start (omega arith))
 
 -- an accepted file has an even number of bytes, and 65,536 at most

@@ -14,16 +14,19 @@ use Rattle.blocks.specs.declared.Cursor.{Cursor}
 use Rattle.blocks.specs.declared.Stop.{Stop}
 use Rattle.blocks.specs.declared.Stop.the-variants.{Refused}
 use Rattle.blocks.specs.declared.Step.the-variants.{Block, Over}
-use Rattle.blocks.specs.Walk.{cut, frontOf, rawOf, stepAt, Walk, over, block, walk, partsOf}
+use Rattle.blocks.specs.Walk.{cut, frontOf, rawOf, stepAt, Walk, over, block, walk, Part, partsOf}
 use Rattle.blocks.proofs.Steps.{walkFrom, walk-start, walk-over, walk-block, step-block}
 use Rattle.rules.specs.Slim.{Slim}
+use Rattle.tables.specs.declared.setup.Setup.{Setup}
+use Rattle.tables.specs.Setup.{noSetup}
+use Rattle.tables.proofs.TableLaws.{learnt-raw}
 use Rattle.accept.specs.declared.judge.State.{State}
 use Rattle.accept.specs.declared.judge.Judged.{Judged}
 use Rattle.accept.specs.declared.judge.Judged.the-variants.{Passed, Denied}
-use Rattle.accept.specs.Judge.{firstState, seenIn, closed, judge, misfit, surveyed}
-use Rattle.accept.specs.Slims.{slimPart, slims, slimsIn, partAt}
+use Rattle.accept.specs.Judge.{firstState, skipped, entered, enteredBy, seenIn, closed, judge, misfit, surveyed}
+use Rattle.accept.specs.Slims.{slimPart, knownFrom, slims, slimsIn, partAt}
 use Rattle.accept.proofs.Turns.{judge-pass, judge-deny}
-use Rattle.accept.proofs.Seen.{no-denied, Through, seen-through}
+use Rattle.accept.proofs.Seen.{no-denied, Through, unlisted, listed, seen-through}
 
 pub refused : (s s′ : State) (num p : ℕ) → judge s (over (Refused num p)) ≡ Passed s′ → ⊥
 unfolding judge closed
@@ -74,26 +77,33 @@ passes ws m c s s′ id nn start len next q e =
           goes = on;
         }
 
+-- what is known in the state behind a block is what is known from it
+pub known-through : (s s′ : State) (at : ℕ) (p : Part) → Through s at (p .words) s′ → s′ .setup ≡ knownFrom (s .setup) p
+unfolding knownFrom skipped enteredBy entered
+known-through s s′ at p (unlisted l e) = rw l (ap (λ (x : State). x .setup) (sym e))
+known-through s s′ at p (listed l d g e) = rw l (ap (λ (x : State). x .setup) (sym e) ∙ learnt-raw (s .setup) (p .words) (p .raw))
+
 -- ---- the slim blocks that are left
 
-module _ (m : ℕ) (ws : List ℕ) (c : Cursor) where
-  pub slims-over : (stop : Stop) → stepAt ws c ≡ Over stop → slims (partsOf (walkFrom (suc m) ws c)) ≡ []
+module _ (m : ℕ) (ws : List ℕ) (c : Cursor) (s : Setup) where
+  pub slims-over : (stop : Stop) → stepAt ws c ≡ Over stop → slims s (partsOf (walkFrom (suc m) ws c)) ≡ []
   unfolding slims partsOf
-  slims-over stop q = ap (λ (w : Walk). slims (partsOf w)) (walk-over m ws c stop q)
+  slims-over stop q = ap (λ (w : Walk). slims s (partsOf w)) (walk-over m ws c stop q)
 
   pub slims-block : (id nn start len : ℕ) (next : Cursor) → stepAt ws c ≡ Block id nn start len next
-      → slims (partsOf (walkFrom (suc m) ws c)) ≡ slimPart (partAt ws start len) ++ slims (partsOf (walkFrom m ws next))
+      → slims s (partsOf (walkFrom (suc m) ws c)) ≡ slimPart s (partAt ws start len) ++ slims (knownFrom s (partAt ws start len)) (partsOf (walkFrom m ws next))
   unfolding slims partsOf partAt
-  slims-block id nn start len next q = ap (λ (w : Walk). slims (partsOf w)) (walk-block m ws c id nn start len next q)
+  slims-block id nn start len next q = ap (λ (w : Walk). slims s (partsOf w)) (walk-block m ws c id nn start len next q)
 
-pub record Onward (ws : List ℕ) (c : Cursor) (xs : List Slim) : Type 0 where
+pub record Onward (ws : List ℕ) (c : Cursor) (known : Setup) (xs : List Slim) : Type 0 where
   pub fuel : ℕ
   pub state : State
   pub last : State
   pub goes : judge state (walkFrom fuel ws c) ≡ Passed last
-  pub left : slims (partsOf (walkFrom fuel ws c)) ≡ xs
+  pub known-is : state .setup ≡ known
+  pub left : slims known (partsOf (walkFrom fuel ws c)) ≡ xs
 
-pub onward : (file : List ℕ) (s : State) → surveyed file ≡ Passed s → Onward (wordsOf file) (record { at = 0; last = 0 }) (slimsIn file)
+pub onward : (file : List ℕ) (s : State) → surveyed file ≡ Passed s → Onward (wordsOf file) (record { at = 0; last = 0 }) noSetup (slimsIn file)
 unfolding surveyed slimsIn
 onward file s e =
     let ws = wordsOf file in
@@ -102,41 +112,53 @@ onward file s e =
       state = firstState;
       last = s;
       goes = ap (judge firstState) (walk-start ws) ∙ cond-second (misfit file) e no-denied .1;
-      left = ap (λ (w : Walk). slims (partsOf w)) (walk-start ws);
+      known-is = refl;
+      left = ap (λ (w : Walk). slims noSetup (partsOf w)) (walk-start ws);
     }
 
 -- at the end nothing is left
-pub onward-over : {ws : List ℕ} {c : Cursor} {xs : List Slim} → Onward ws c xs → (stop : Stop) → stepAt ws c ≡ Over stop → xs ≡ []
-onward-over {ws} {c} {xs} o stop q = go (o .fuel) (o .goes) (o .left)
+pub onward-over : {ws : List ℕ} {c : Cursor} {known : Setup} {xs : List Slim} → Onward ws c known xs → (stop : Stop) → stepAt ws c ≡ Over stop → xs ≡ []
+onward-over {ws} {c} {known} {xs} o stop q = go (o .fuel) (o .goes) (o .left)
   where
-    go : (m : ℕ) → judge (o .state) (walkFrom m ws c) ≡ Passed (o .last) → slims (partsOf (walkFrom m ws c)) ≡ xs → xs ≡ []
+    go : (m : ℕ) → judge (o .state) (walkFrom m ws c) ≡ Passed (o .last) → slims known (partsOf (walkFrom m ws c)) ≡ xs → xs ≡ []
     go zero e l = absurd (no-fuel ws (o .state) (o .last) c e)
-    go (suc m) e l = sym l ∙ slims-over m ws c stop q
+    go (suc m) e l = sym l ∙ slims-over m ws c known stop q
 
 -- a block, and what is left behind it
-pub record Over-block (ws : List ℕ) (xs : List Slim) (start len : ℕ) (next : Cursor) : Type 0 where
+pub record Over-block (ws : List ℕ) (known : Setup) (xs : List Slim) (start len : ℕ) (next : Cursor) : Type 0 where
   pub fuel : ℕ
   pub before : State
+  pub before-is : before .setup ≡ known
   pub last : State
   pub passes : Passes ws fuel before last start len next
   pub more : List Slim
-  pub split : xs ≡ slimPart (partAt ws start len) ++ more
-  pub on : Onward ws next more
+  pub split : xs ≡ slimPart known (partAt ws start len) ++ more
+  pub on : Onward ws next (knownFrom known (partAt ws start len)) more
 
-pub onward-block : {ws : List ℕ} {c : Cursor} {xs : List Slim} → Onward ws c xs → (id nn start len : ℕ) (next : Cursor) → stepAt ws c ≡ Block id nn start len next
-    → Over-block ws xs start len next
-onward-block {ws} {c} {xs} o id nn start len next q = go (o .fuel) (o .goes) (o .left)
+pub onward-block : {ws : List ℕ} {c : Cursor} {known : Setup} {xs : List Slim} → Onward ws c known xs → (id nn start len : ℕ) (next : Cursor) → stepAt ws c ≡ Block id nn start len next
+    → Over-block ws known xs start len next
+unfolding partAt
+onward-block {ws} {c} {known} {xs} o id nn start len next q = go (o .fuel) (o .goes) (o .left)
   where
-    go : (m : ℕ) → judge (o .state) (walkFrom m ws c) ≡ Passed (o .last) → slims (partsOf (walkFrom m ws c)) ≡ xs → Over-block ws xs start len next
+    go : (m : ℕ) → judge (o .state) (walkFrom m ws c) ≡ Passed (o .last) → slims known (partsOf (walkFrom m ws c)) ≡ xs → Over-block ws known xs start len next
     go zero e l = absurd (no-fuel ws (o .state) (o .last) c e)
     go (suc m) e l =
         let p = passes ws m c (o .state) (o .last) id nn start len next q e in
         record {
           fuel = m;
           before = o .state;
+          before-is = o .known-is;
           last = o .last;
           passes = p;
-          more = slims (partsOf (walkFrom m ws next));
-          split = sym l ∙ slims-block m ws c id nn start len next q;
-          on = record { fuel = m; state = p .state; last = o .last; goes = p .goes; left = refl };
+          more = slims (knownFrom known (partAt ws start len)) (partsOf (walkFrom m ws next));
+          split = sym l ∙ slims-block m ws c known id nn start len next q;
+          on =
+              record {
+                fuel = m;
+                state = p .state;
+                last = o .last;
+                goes = p .goes;
+                known-is = known-through (o .state) (p .state) start (partAt ws start len) (p .through) ∙ ap (λ (k : Setup). knownFrom k (partAt ws start len)) (o .known-is);
+                left = refl;
+              };
         }

@@ -15,7 +15,7 @@ use Rattle.rules.specs.declared.Tested.the-variants.{Good, Bad}
 use Rattle.rules.specs.Block.{kept, behind}
 use Rattle.words.proofs.Choice.{cond-first}
 use Rattle.rules.proofs.BlockLaws.{no-bad, behind-good}
-use Rattle.tables.specs.Table.{rowOf}
+use Rattle.tables.specs.Table.{kindOf}
 use Rattle.tables.specs.Setup.{rowFor}
 use Rattle.tables.specs.Order.{keyOf, isDue}
 use Rattle.tables.proofs.TableLaws.{row-listed}
@@ -31,8 +31,8 @@ passed-same e = cc
 
 -- a block that is not listed, or a listed one that was due and is good by its row
 pub data Through (s : State) (at : ℕ) (b : List ℕ) (s′ : State) : Type 0 where
-  unlisted : rowOf (low (getD b 0 0)) .listed ≡ false → skipped s ≡ s′ → Through s at b s′
-  listed : rowOf (low (getD b 0 0)) .listed ≡ true → isDue (s .due) (keyOf (getD b 0 0)) ≡ true
+  unlisted : kindOf (low (getD b 0 0)) .listed ≡ false → skipped s ≡ s′ → Through s at b s′
+  listed : kindOf (low (getD b 0 0)) .listed ≡ true → isDue (s .due) (keyOf (getD b 0 0)) ≡ true
       → kept (rowFor (s .setup) (getD b 0 0)) b ≡ Good → enteredBy s at b ≡ s′ → Through s at b s′
 
 judged-passed : (s s′ : State) (t : Tested) → judgedBy s t ≡ Passed s′ → (t ≡ Good) × (s ≡ s′)

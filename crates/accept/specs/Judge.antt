@@ -80,7 +80,7 @@ entered s key at known = record { due = dueAfter known key; setup = known; start
 
 -- the same by the block's own words; no state depends on raw contents
 unfoldable pub enteredBy : State → ℕ → List ℕ → State
-enteredBy s at b = entered s (keyOf (getD b 0 0)) at (learnt (s .setup) (slimOf b []))
+enteredBy s at b = entered s (keyOf (getD b 0 0)) at (learnt (s .setup) (slimOf (s .setup) b []))
 
 -- "order (4), long form not allowed or short (3), then words": a listed block, against what is due and its row
 unfoldable pub testedBy : Row → Due → List ℕ → Tested

@@ -8,22 +8,28 @@ use Rattle.words.specs.Words.{low, wordsOf}
 use Rattle.blocks.specs.Walk.{broken, ended, cut, frontOf, rawOf, Part, partsOf, walked}
 use Rattle.rules.specs.Slim.{Slim, wordIn}
 use Rattle.accept.specs.declared.judge.Starts.{Starts}
-use Rattle.tables.specs.Table.{rowOf}
-use Rattle.tables.specs.Setup.{slimOf}
+use Rattle.tables.specs.declared.setup.Setup.{Setup}
+use Rattle.tables.specs.Table.{kindOf}
+use Rattle.tables.specs.Setup.{noSetup, slimOf, learnt}
 use Rattle.tables.specs.Order.{keyOf}
 use Rattle.accept.specs.Judge.{absent, placeOf}
 
--- a listed block in its slim form; a block that is not listed leaves none
-unfoldable pub slimPart : Part → List Slim
-slimPart p = cond (rowOf (low (getD (p .words) 0 0)) .listed) (slimOf (p .words) (p .raw) ∷ []) []
+-- a listed block in its slim form, by what is known before it; a block that is not listed leaves none
+unfoldable pub slimPart : Setup → Part → List Slim
+slimPart s p = cond (kindOf (low (getD (p .words) 0 0)) .listed) (slimOf s (p .words) (p .raw) ∷ []) []
 
-unfoldable pub slims : List Part → List Slim
-slims [] = []
-slims (p ∷ ps) = slimPart p ++ slims ps
+-- what is known after a block: a block that is not listed says nothing
+unfoldable pub knownFrom : Setup → Part → Setup
+knownFrom s p = cond (kindOf (low (getD (p .words) 0 0)) .listed) (learnt s (slimOf s (p .words) (p .raw))) s
+
+-- the listed blocks in their slim forms, each by what is known from those before it: "a file is read by the model in its own block 02"
+unfoldable pub slims : Setup → List Part → List Slim
+slims s [] = []
+slims s (p ∷ ps) = slimPart s p ++ slims (knownFrom s p) ps
 
 -- the slim blocks of a file
 unfoldable pub slimsIn : List ℕ → List Slim
-slimsIn file = slims (partsOf (walked (wordsOf file)))
+slimsIn file = slims noSetup (partsOf (walked (wordsOf file)))
 
 -- the slim form of a block that is absent
 abbrev pub noSlim : Slim

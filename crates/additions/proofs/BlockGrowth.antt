@@ -10,7 +10,7 @@ use Rattle.rules.specs.Block.{nulled, readable, kept}
 use Rattle.rules.specs.Slim.{counted}
 use Rattle.rules.proofs.BlockLaws.{kept-says}
 use Rattle.tables.specs.declared.setup.Setup.{Setup}
-use Rattle.tables.specs.Table.{rowOf}
+use Rattle.tables.specs.Table.{kindOf}
 use Rattle.tables.specs.Setup.{rowFor, slimOf}
 use Rattle.tables.specs.Order.{keyOf}
 use Rattle.tables.proofs.TableLaws.{row-exact, row-text}
@@ -25,7 +25,7 @@ pub record Same (s : Setup) (p p′ : Part) : Type 0 where
   pub key : keyOf (getD (p′ .words) 0 0) ≡ keyOf (getD (p .words) 0 0)
   pub good : kept (rowFor s (getD (p′ .words) 0 0)) (p′ .words) ≡ Good
   pub whole : Whole p → Whole p′
-  pub slim : slimOf (p′ .words) (p′ .raw) ≡ slimOf (p .words) (p .raw)
+  pub slim : slimOf s (p′ .words) (p′ .raw) ≡ slimOf s (p .words) (p .raw)
 
 pub grown-same : {p p′ : Part} → Grown p p′ → (s : Setup) → kept (rowFor s (getD (p .words) 0 0)) (p .words) ≡ Good → Same s p p′
 unfolding recounted counted readable
@@ -43,7 +43,7 @@ grown-same (table h w {t} {t′} raw may rs) s g =
 grown-same (title h t t′ raw may null text) s g =
     let l = counted-low h (suc (length t′)) in
     let i = is-text s h t t′ raw may null text in
-    let x : rowOf (low h) .exact ≡ false = sym (row-exact s h) ∙ i .exact in
+    let x : kindOf (low h) .exact ≡ false = sym (row-exact s h) ∙ i .exact in
     let was : nulled t ≡ true = rw (row-text s h ∙ said s h t t′ raw may null text .1) at (kept-says _ _ g .null) in
     record {
       id = l;

@@ -9,15 +9,15 @@ use borrow.Author.Tests.{ne-eqb, le-ltb}
 use Rattle.words.specs.Words.{low, high}
 use Rattle.blocks.specs.Walk.{cut, endMarker, longForm, fronted, frontOf}
 use Rattle.tables.specs.declared.setup.Setup.{Setup}
-use Rattle.tables.specs.Table.{rowOf}
+use Rattle.tables.specs.Table.{rowOf, kindOf}
 use Rattle.tables.specs.Setup.{rowFor}
 use Rattle.tables.specs.Order.{keyOf}
 
 -- a block of a listed id, but no histogram, is held to its row by its id alone
-module _ (h h′ : ℕ) (same : low h′ ≡ low h) (x : rowOf (low h) .exact ≡ false) where
+module _ (h h′ : ℕ) (same : low h′ ≡ low h) (x : kindOf (low h) .exact ≡ false) where
   no-histogram : low h ≡ 0x0B → ⊥
   unfolding rowOf
-  no-histogram e = false≢true (sym x ∙ ap (λ (i : ℕ). rowOf i .exact) {x = low h} {y = 0x0B} e)
+  no-histogram e = false≢true (sym x ∙ ap (λ (i : ℕ). kindOf i .exact) {x = low h} {y = 0x0B} e)
 
   pub same-row : (s : Setup) → rowFor s h′ ≡ rowFor s h
   unfolding rowFor
@@ -32,10 +32,10 @@ unfolding rowFor
 logger-row s h e = rw e
 
 -- a listed block whose count is its length
-pub counted-front : (h : ℕ) (t : List ℕ) → high h ≡ suc (length t) → rowOf (low h) .listed ≡ true → rowOf (low h) .exact ≡ false → frontOf (h ∷ t) ≡ cut (suc (length t))
+pub counted-front : (h : ℕ) (t : List ℕ) → high h ≡ suc (length t) → kindOf (low h) .listed ≡ true → kindOf (low h) .exact ≡ false → frontOf (h ∷ t) ≡ cut (suc (length t))
 unfolding frontOf fronted longForm rowOf
 counted-front h t c l x =
-    let no : (i : ℕ) → rowOf i .listed ≡ false → low h ≡ i → ⊥ = λ i u e. false≢true (sym u ∙ ap (λ (j : ℕ). rowOf j .listed) (sym e) ∙ l) in
+    let no : (i : ℕ) → kindOf i .listed ≡ false → low h ≡ i → ⊥ = λ i u e. false≢true (sym u ∙ ap (λ (j : ℕ). kindOf j .listed) (sym e) ∙ l) in
     simp (
       ne-eqb (suc (length t)) 0 (λ z. omega arith),
       ne-eqb h endMarker (λ e. no 0xFF refl (omega (arith, e))),

@@ -10,11 +10,11 @@ use borrow.Author.Tests.{not-true, eqb-true, eqb-false, ltb-true, ne-eqb, le-ltb
 use Rattle.words.specs.Words.{low, high}
 use Rattle.words.proofs.Choice.{and-both}
 use Rattle.blocks.specs.Walk.{broken, cut, endMarker, longForm, fronted, frontOf, rawOf, Whole}
-use Rattle.tables.specs.Table.{rowOf}
+use Rattle.tables.specs.Table.{rowOf, kindOf}
 use Rattle.additions.specs.Additions.{countIn, mayBePut}
 
 pub record Put (b : List ℕ) : Type 0 where
-  pub unlisted : rowOf (low (getD b 0 0)) .listed ≡ false
+  pub unlisted : kindOf (low (getD b 0 0)) .listed ≡ false
   pub no-end : getD b 0 0 ≡ endMarker → ⊥
   pub some : 0 < length b
   pub counts : countIn b ≡ length b
@@ -22,7 +22,7 @@ pub record Put (b : List ℕ) : Type 0 where
 pub put-says : (b : List ℕ) → mayBePut b ≡ true → Put b
 unfolding mayBePut
 put-says b e =
-    let tests : (not (rowOf (low (getD b 0 0)) .listed) && (not (eqb (getD b 0 0) endMarker) && (ltb 0 (length b) && eqb (countIn b) (length b)))) ≡ true = e in
+    let tests : (not (kindOf (low (getD b 0 0)) .listed) && (not (eqb (getD b 0 0) endMarker) && (ltb 0 (length b) && eqb (countIn b) (length b)))) ≡ true = e in
     let p = and-both _ _ tests in
     let q = and-both _ _ (p .1) in
     let r = and-both _ _ (q .1) in
@@ -53,5 +53,5 @@ put-front b p = simp (ne-eqb (length b) 0 (λ z. omega (arith, p .some)), ne-eqb
 pub put-whole : (b : List ℕ) → Put b → Whole (record { words = b; raw = [] })
 unfolding rawOf rowOf
 put-whole b p =
-    let no : low (getD b 0 0) ≡ 0x0F → ⊥ = λ e. false≢true (sym (p .unlisted) ∙ ap (λ (i : ℕ). rowOf i .listed) {x = low (getD b 0 0)} {y = 0x0F} e) in
+    let no : low (getD b 0 0) ≡ 0x0F → ⊥ = λ e. false≢true (sym (p .unlisted) ∙ ap (λ (i : ℕ). kindOf i .listed) {x = low (getD b 0 0)} {y = 0x0F} e) in
     record { counted = put-front b p; followed = simp (ne-eqb (low (getD b 0 0)) 0x0F no) }

@@ -14,18 +14,18 @@ use Rattle.words.proofs.Choice.{and-both}
 use Rattle.blocks.specs.Walk.{Whole}
 use Rattle.rules.specs.declared.Row.{Row}
 use Rattle.rules.specs.declared.Tested.the-variants.{Good}
-use Rattle.rules.specs.Block.{rulesIn, sized, readable, kept}
+use Rattle.rules.specs.Block.{leastOf, rulesIn, sized, readable, kept}
 use Rattle.rules.specs.Slim.{counted, cutTo, slimRecords, headBy, slimBy}
-use Rattle.rules.proofs.BlockLaws.{Kept, kept-says, says-kept, kept-least}
+use Rattle.rules.proofs.BlockLaws.{Kept, kept-says, says-kept, kept-least, kept-full, full-filled}
 use Rattle.tables.specs.declared.setup.Setup.{Setup}
-use Rattle.tables.specs.Table.{rowOf}
+use Rattle.tables.specs.Table.{kindOf}
 use Rattle.tables.specs.Setup.{rowFor, slimOf}
-use Rattle.tables.proofs.TableLaws.{row-exact, row-text, row-subs, row-least}
+use Rattle.tables.proofs.TableLaws.{row-exact, row-text, row-subs}
 use Rattle.sound.proofs.SoundRows.{frontWords, each-sound}
 use Rattle.additions.specs.Additions.{mayGrow, Records, rest, next}
-use Rattle.additions.proofs.Agreeing.{Agree, ruled-agree, buffered-agree, raw-agree}
+use Rattle.additions.proofs.Agreeing.{Agree, ruled-agree, least-agree, buffered-agree, raw-agree}
 use Rattle.additions.proofs.RecordGrowth.{counted-low, counted-high, records-grow, records-length}
-use Rattle.additions.proofs.FirstWord.{logger-row, counted-front}
+use Rattle.additions.proofs.FirstWord.{same-row, logger-row, counted-front}
 
 -- the block h ∷ w ∷ t, and the same with another count and t′ behind word 1
 module _ (h h′ w : ℕ) where
@@ -47,14 +47,14 @@ module _ (h h′ w : ℕ) where
   front-agree (rest t more) n l = record { word = λ i p q. words-more t more i p (omega arith) }
   front-agree (next {k} a b more c rs) n l = rw (ne-eqb (suc k) 0 (λ z. omega arith)) (agree-one _ _)
 
-  -- and so are those that are kept of them
-  front-kept : low h′ ≡ low h → {k : ℕ} {t t′ : List ℕ} → Records k t t′ → (n : ℕ) → n ≤ suc (suc (length t))
-      → cond (eqb k 0) (cutTo n (h′ ∷ (w ∷ t′))) (counted n (h′ ∷ (w ∷ t′)) ∷ (w ∷ [])) ≡ cond (eqb k 0) (cutTo n (h ∷ (w ∷ t))) (counted n (h ∷ (w ∷ t)) ∷ (w ∷ []))
+  -- and so are those that are kept of them: n of a block without sub-blocks
+  front-kept : low h′ ≡ low h → {k : ℕ} {t t′ : List ℕ} → Records k t t′ → (n m : ℕ) → n ≤ suc (suc (length t))
+      → cond (eqb k 0) (cutTo n (h′ ∷ (w ∷ t′))) (counted m (h′ ∷ (w ∷ t′)) ∷ (w ∷ [])) ≡ cond (eqb k 0) (cutTo n (h ∷ (w ∷ t))) (counted m (h ∷ (w ∷ t)) ∷ (w ∷ []))
   unfolding cutTo counted
-  front-kept same (rest t more) n l = rw (same, take-append-le (n - 1) (w ∷ t) more (omega arith))
-  front-kept same (next {k} a b more c rs) n l = rw (ne-eqb (suc k) 0 (λ z. omega arith), same)
+  front-kept same (rest t more) n m l = rw (same, take-append-le (n - 1) (w ∷ t) more (omega arith))
+  front-kept same (next {k} a b more c rs) n m l = rw (ne-eqb (suc k) 0 (λ z. omega arith), same)
 
-module _ (s : Setup) (h w : ℕ) {t t′ : List ℕ} (raw : List ℕ) (may : mayGrow (rowOf (low h)) ≡ true) (grown : Records (rowOf (low h) .subs .count) t t′) where
+module _ (s : Setup) (h w : ℕ) {t t′ : List ℕ} (raw : List ℕ) (may : mayGrow (kindOf (low h)) ≡ true) (grown : Records (kindOf (low h) .subs .count) t t′) where
   abbrev row : Row
   row = rowFor s h
 
@@ -62,10 +62,10 @@ module _ (s : Setup) (h w : ℕ) {t t′ : List ℕ} (raw : List ℕ) (may : may
   abbrev h₁ : ℕ
   h₁ = low h + 256 * suc (suc (length t′))
 
-  pub is : (rowOf (low h) .listed ≡ true) × ((rowOf (low h) .exact ≡ false) × (rowOf (low h) .text ≡ false))
+  pub is : (kindOf (low h) .listed ≡ true) × ((kindOf (low h) .exact ≡ false) × (kindOf (low h) .text ≡ false))
   unfolding mayGrow
   is =
-      let tests : (rowOf (low h) .listed && (not (rowOf (low h) .exact) && not (rowOf (low h) .text))) ≡ true = may in
+      let tests : (kindOf (low h) .listed && (not (kindOf (low h) .exact) && not (kindOf (low h) .text))) ≡ true = may in
       let a = and-both _ _ tests in
       let b = and-both _ _ (a .1) in
       (a .0, (not-true _ (b .0), not-true _ (b .1)))
@@ -81,6 +81,9 @@ module _ (s : Setup) (h w : ℕ) {t t′ : List ℕ} (raw : List ℕ) (may : may
     unfolding frontWords
     near = front-agree h h₁ w grown-by (row .least) (kept-least row _ was)
 
+    least-same : leastOf row (h₁ ∷ (w ∷ t′)) ≡ leastOf row (h ∷ (w ∷ t))
+    least-same = least-agree near row (each-sound s h .more)
+
     pub table-good : kept row (h₁ ∷ (w ∷ t′)) ≡ Good
     unfolding sized readable
     table-good =
@@ -92,18 +95,18 @@ module _ (s : Setup) (h w : ℕ) {t t′ : List ℕ} (raw : List ℕ) (may : may
           sized = simp (row-exact s h ∙ is .1 .0, ne-eqb (high h₁) 0 (λ z. omega (arith, counted-high h (suc (suc (length t′))))), le-leb (row .least) (suc (suc (length t′))) (omega (arith, records-length grown)));
           null = rw (row-text s h ∙ is .1 .1);
           rules = ruled-agree near (rulesIn (row .rules)) (sound .rules) ∙ was .rules;
+          filled = full-filled row (h₁ ∷ (w ∷ t′)) (omega (arith, least-same, kept-full row _ was, records-length grown));
           whole = buffered-agree near row (sound .logger) ∙ was .whole;
           subs = r .0;
         })
 
-    pub table-slim : slimOf (h₁ ∷ (w ∷ t′)) raw ≡ slimOf (h ∷ (w ∷ t)) raw
-    unfolding slimOf slimBy headBy
+    pub table-slim : slimOf s (h₁ ∷ (w ∷ t′)) raw ≡ slimOf s (h ∷ (w ∷ t)) raw
+    unfolding slimOf slimBy headBy rowFor slimRecords
     table-slim =
-        let r = rowOf (low h) in
-        let least : r .least ≤ suc (suc (length t)) = omega (arith, kept-least row _ was, row-least s h (is .1 .0)) in
+        let full = kept-full row _ was in
         let subs = records-grow (row .subs) (each-sound s h .sub-rules) grown-by (was .subs) .1 in
-        let subs₁ : slimRecords (r .subs .least) (r .subs .count) t′ ≡ slimRecords (r .subs .least) (r .subs .count) t = rw (row-subs s h) at subs in
-        rw (counted-low h (suc (suc (length t′))), is .1 .0, is .1 .1, subs₁, front-kept h h₁ w (counted-low h _) grown (r .least) least)
+        let front = front-kept h h₁ w (counted-low h _) grown-by (leastOf row (h ∷ (w ∷ t))) (row .least) full in
+        rw (same-row h h₁ (counted-low h _) (is .1 .0) s, row-exact s h ∙ is .1 .0, row-text s h ∙ is .1 .1, subs, least-same, front)
 
     pub table-whole : Whole (record { words = h ∷ (w ∷ t); raw = raw }) → Whole (record { words = h₁ ∷ (w ∷ t′); raw = raw })
     table-whole wh =

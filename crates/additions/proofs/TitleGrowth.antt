@@ -11,59 +11,59 @@ use Rattle.words.proofs.Choice.{and-both}
 use Rattle.text.specs.Text.{beforeNull}
 use Rattle.blocks.specs.Walk.{rawOf, Whole}
 use Rattle.rules.specs.declared.Row.{Row}
-use Rattle.rules.specs.declared.Subs.{Subs}
 use Rattle.rules.specs.declared.Tested.the-variants.{Good}
-use Rattle.rules.specs.Block.{ruled, rulesIn, records, sized, nulled, readable, buffered, kept}
+use Rattle.rules.specs.Block.{leastOf, ruled, rulesIn, records, sized, nulled, readable, buffered, kept}
 use Rattle.rules.specs.Slim.{counted, cutText, slimRecords, headBy, slimBy}
-use Rattle.rules.proofs.BlockLaws.{says-kept}
+use Rattle.rules.proofs.BlockLaws.{says-kept, full-filled}
 use Rattle.tables.specs.declared.setup.Setup.{Setup}
-use Rattle.tables.specs.Table.{rowOf}
+use Rattle.tables.specs.Table.{kindOf}
 use Rattle.tables.specs.Setup.{rowFor, slimOf}
-use Rattle.tables.proofs.TableLaws.{row-exact, row-text, row-subs}
+use Rattle.tables.proofs.TableLaws.{row-exact, row-text}
 use Rattle.sound.proofs.SoundRows.{Text, each-sound}
 use Rattle.additions.specs.Additions.{isText}
 use Rattle.additions.proofs.RecordGrowth.{counted-low, counted-high}
 use Rattle.additions.proofs.TextGrowth.{nulled-some, text-same}
-use Rattle.additions.proofs.FirstWord.{logger-row, counted-front}
+use Rattle.additions.proofs.FirstWord.{same-row, logger-row, counted-front}
 
-module _ (s : Setup) (h : ℕ) (t t′ raw : List ℕ) (may : isText (rowOf (low h)) ≡ true) (null : nulled t′ ≡ true) (text : beforeNull (bytesOf t′) ≡ beforeNull (bytesOf t)) where
+module _ (s : Setup) (h : ℕ) (t t′ raw : List ℕ) (may : isText (kindOf (low h)) ≡ true) (null : nulled t′ ≡ true) (text : beforeNull (bytesOf t′) ≡ beforeNull (bytesOf t)) where
   abbrev title-row : Row
   title-row = rowFor s h
 
   abbrev h₂ : ℕ
   h₂ = low h + 256 * suc (length t′)
 
-  pub said : (rowOf (low h) .listed ≡ true) × (rowOf (low h) .text ≡ true)
+  pub said : (kindOf (low h) .listed ≡ true) × (kindOf (low h) .text ≡ true)
   unfolding isText
-  said = and-both (rowOf (low h) .listed) _ may
+  said = and-both (kindOf (low h) .listed) _ may
 
   pub is-text : Text title-row
   is-text = each-sound s h .text (row-text s h ∙ said .1)
 
   pub title-good : kept title-row (h ∷ t) ≡ Good → kept title-row (h₂ ∷ t′) ≡ Good
-  unfolding sized readable rulesIn ruled buffered records
+  unfolding leastOf sized readable rulesIn ruled buffered records
   title-good g =
       says-kept title-row (h₂ ∷ t′)
       (record {
         sized = simp (is-text .exact, ne-eqb (high h₂) 0 (λ z. omega (arith, counted-high h (suc (length t′)))), le-leb (title-row .least) (suc (length t′)) (omega (arith, is-text .least, nulled-some t′ null)));
         null = rw (row-text s h ∙ said .1) null;
         rules = rw (is-text .rules);
+        filled = full-filled title-row (h₂ ∷ t′) (rw (is-text .more (h₂ ∷ t′)) (omega (arith, is-text .least, nulled-some t′ null)));
         whole = rw (is-text .logger);
         subs = rw (is-text .subs);
       })
 
-  pub title-slim : nulled t ≡ true → slimOf (h₂ ∷ t′) raw ≡ slimOf (h ∷ t) raw
+  pub title-slim : nulled t ≡ true → slimOf s (h₂ ∷ t′) raw ≡ slimOf s (h ∷ t) raw
   unfolding slimOf slimBy headBy cutText counted slimRecords
   title-slim was =
-      let exact : rowOf (low h) .exact ≡ false = sym (row-exact s h) ∙ is-text .exact in
-      let none : rowOf (low h) .subs .count ≡ 0 = sym (ap (λ (x : Subs). x .count) (row-subs s h)) ∙ is-text .subs in
-      rw (counted-low h (suc (length t′)), exact, said .1, none, text-same t t′ was null text)
+      let exact : kindOf (low h) .exact ≡ false = sym (row-exact s h) ∙ is-text .exact in
+      let l = counted-low h (suc (length t′)) in
+      rw (same-row h h₂ l exact s, is-text .exact, row-text s h ∙ said .1, is-text .subs, text-same t t′ was null text, l)
 
   pub title-whole : Whole (record { words = h ∷ t; raw = raw }) → Whole (record { words = h₂ ∷ t′; raw = raw })
   unfolding rawOf
   title-whole wh =
       let l = counted-low h (suc (length t′)) in
-      let exact : rowOf (low h) .exact ≡ false = sym (row-exact s h) ∙ is-text .exact in
+      let exact : kindOf (low h) .exact ≡ false = sym (row-exact s h) ∙ is-text .exact in
       let no : low h ≡ 0x0F → ⊥ = λ e. false≢true (sym (is-text .logger) ∙ logger-row s h e) in
       record {
         counted = counted-front h₂ t′ (counted-high h _) (rw l (said .0)) (rw l exact);

@@ -9,10 +9,10 @@ use Rattle.blocks.specs.Walk.{Part, Whole, Wholes}
 use Rattle.rules.specs.Block.{kept}
 use Rattle.tables.specs.declared.setup.Setup.{Setup}
 use Rattle.tables.specs.declared.order.Due.{Due}
-use Rattle.tables.specs.Table.{rowOf}
+use Rattle.tables.specs.Table.{rowOf, kindOf}
 use Rattle.tables.specs.Setup.{rowFor, noSetup}
 use Rattle.tables.specs.Order.{keyOf, isDue, only, passedOver}
-use Rattle.accept.specs.Slims.{slimPart, slims, slimsIn}
+use Rattle.accept.specs.Slims.{slimPart, knownFrom, slims, slimsIn}
 use Rattle.grammar.specs.Grammar.{knownAfter, Grammatical, Accepts, Ordered, ordered}
 use Rattle.grammar.proofs.Takes.{wordOf, good, takes, good-is, key-listed}
 use Rattle.grammar.proofs.Sentence.{takes-ordered, ordered-takes}
@@ -26,14 +26,14 @@ use Rattle.additions.proofs.PutBlocks.{put-says, put-whole}
 
 pub record Unchanged (d : Due) (s : Setup) (ps ps′ : List Part) : Type 0 where
   pub taken : takes d s ps′ ≡ true
-  pub held : slims ps′ ≡ slims ps
+  pub held : slims s ps′ ≡ slims s ps
   pub wholes : Wholes ps′
 
 module _ {ps ps′ : List Part} where
   -- a listed block that has grown
-  listed-grown : (d : Due) (s : Setup) {p p′ : Part} → Grown p p′ → rowOf (low (wordOf p)) .listed ≡ true → takes d s (p ∷ ps) ≡ true → Whole p
+  listed-grown : (d : Due) (s : Setup) {p p′ : Part} → Grown p p′ → kindOf (low (wordOf p)) .listed ≡ true → takes d s (p ∷ ps) ≡ true → Whole p
       → ((d : Due) (s : Setup) → Later d → takes d s ps ≡ true → Unchanged d s ps ps′) → Unchanged d s (p ∷ ps) (p′ ∷ ps′)
-  unfolding takes slims slimPart knownAfter good
+  unfolding takes slims slimPart knownFrom knownAfter good
   listed-grown d s {p} {p′} g l e w behind =
       let a = and-both (isDue d (keyOf (wordOf p))) _ (simp l at e) in
       let b = and-both (good (kept (rowFor s (wordOf p)) (p .words))) _ (a .1) in
@@ -46,34 +46,34 @@ module _ {ps ps′ : List Part} where
       }
 
 -- a block that is not listed, put there or as it was
-module _ (d : Due) (s : Setup) (p : Part) (l : rowOf (low (wordOf p)) .listed ≡ false) (first : Later d) where
+module _ (d : Due) (s : Setup) (p : Part) (l : kindOf (low (wordOf p)) .listed ≡ false) (first : Later d) where
   passed-over : (ps : List Part) → takes d s (p ∷ ps) ≡ takes d s ps
   unfolding takes passedOver
   passed-over ps = rw (l, first .no-header)
 
   unlisted-put : {ps ps′ : List Part} → Whole p → Unchanged d s ps ps′ → Unchanged d s ps (p ∷ ps′)
-  unfolding slims slimPart
+  unfolding slims slimPart knownFrom
   unlisted-put {ps′ = ps′} w u = record { taken = passed-over ps′ ∙ u .taken; held = rw l (u .held); wholes = (w, u .wholes) }
 
   unlisted-kept : {ps ps′ : List Part} → Unchanged d s ps (p ∷ ps′) → Unchanged d s (p ∷ ps) (p ∷ ps′)
-  unfolding slims slimPart
+  unfolding slims slimPart knownFrom
   unlisted-kept u = record { taken = u .taken; held = u .held ∙ rw l; wholes = u .wholes }
 
 -- only a listed block grows
-unlisted-as-is : {p p′ : Part} → Grown p p′ → rowOf (low (wordOf p)) .listed ≡ false → p′ ≡ p
+unlisted-as-is : {p p′ : Part} → Grown p p′ → kindOf (low (wordOf p)) .listed ≡ false → p′ ≡ p
 unfolding mayGrow isText
 unlisted-as-is (as-is p) l = refl
-unlisted-as-is (table h w raw may rs) l = absurd (false≢true (sym l ∙ and-both (rowOf (low h) .listed) _ may .0))
-unlisted-as-is (title h t t′ raw may null text) l = absurd (false≢true (sym l ∙ and-both (rowOf (low h) .listed) _ may .0))
+unlisted-as-is (table h w raw may rs) l = absurd (false≢true (sym l ∙ and-both (kindOf (low h) .listed) _ may .0))
+unlisted-as-is (title h t t′ raw may null text) l = absurd (false≢true (sym l ∙ and-both (kindOf (low h) .listed) _ may .0))
 
 adds-unchanged : {ps ps′ : List Part} → Adds ps ps′ → Wholes ps → (d : Due) (s : Setup) → Later d → takes d s ps ≡ true → Unchanged d s ps ps′
 adds-unchanged end w d s first e = record { taken = e; held = refl; wholes = tt }
 adds-unchanged (put b {ps} {ps′} may a) w d s first e =
     let p = put-says b may in
     unlisted-put d s (record { words = b; raw = [] }) (p .unlisted) first (put-whole b p) (adds-unchanged a w d s first e)
-adds-unchanged (block {p} {p′} {ps} {ps′} g a) w d s first e = go (rowOf (low (wordOf p)) .listed) refl (λ d s f e. adds-unchanged a (w .1) d s f e)
+adds-unchanged (block {p} {p′} {ps} {ps′} g a) w d s first e = go (kindOf (low (wordOf p)) .listed) refl (λ d s f e. adds-unchanged a (w .1) d s f e)
   where
-    go : (t : Bool) → rowOf (low (wordOf p)) .listed ≡ t → ((d : Due) (s : Setup) → Later d → takes d s ps ≡ true → Unchanged d s ps ps′) → Unchanged d s (p ∷ ps) (p′ ∷ ps′)
+    go : (t : Bool) → kindOf (low (wordOf p)) .listed ≡ t → ((d : Due) (s : Setup) → Later d → takes d s ps ≡ true → Unchanged d s ps ps′) → Unchanged d s (p ∷ ps) (p′ ∷ ps′)
     go true l ih = listed-grown d s g l e (w .0) ih
     go false l ih =
         rw (unlisted-as-is g l)
@@ -82,7 +82,7 @@ adds-unchanged (block {p} {p′} {ps} {ps′} g a) w d s first e = go (rowOf (lo
 -- ---- files with additions
 
 -- the first block of an accepted file is the file header
-header-listed : {p : Part} {ps : List Part} → Ordered (p ∷ ps) → rowOf (low (wordOf p)) .listed ≡ true
+header-listed : {p : Part} {ps : List Part} → Ordered (p ∷ ps) → kindOf (low (wordOf p)) .listed ≡ true
 unfolding rowOf
 header-listed (ordered p h rest) = key-listed (wordOf p) (h .key-is)
 

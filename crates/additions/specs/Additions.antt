@@ -14,13 +14,13 @@ use Rattle.blocks.specs.Walk.{endMarker, longForm, Part, partsOf, walked, joine
 use Rattle.rules.specs.declared.Row.{Row}
 use Rattle.rules.specs.Block.{nulled}
 use Rattle.rules.specs.Slim.{counted}
-use Rattle.tables.specs.Table.{rowOf}
+use Rattle.tables.specs.Table.{kindOf}
 
 -- ---- which blocks
 
--- the row of a block, by its id
-abbrev pub rowIn : List ℕ → Row
-rowIn b = rowOf (low (getD b 0 0))
+-- what kind of block it is, by its id: the same in every model
+abbrev pub kindIn : List ℕ → Row
+kindIn b = kindOf (low (getD b 0 0))
 
 -- "Lengthen its table blocks": a listed block, but not a histogram, and not a text, which has a rule of its own
 unfoldable pub mayGrow : Row → Bool
@@ -36,7 +36,7 @@ countIn b = cond (longForm (getD b 0 0)) (getD b 1 0) (high (getD b 0 0))
 
 -- "whole blocks of ids we don't list, first word not FFFF": as many words as it says, and one at least
 unfoldable pub mayBePut : List ℕ → Bool
-mayBePut b = not (rowIn b .listed) && (not (eqb (getD b 0 0) endMarker) && (ltb 0 (length b) && eqb (countIn b) (length b)))
+mayBePut b = not (kindIn b .listed) && (not (eqb (getD b 0 0) endMarker) && (ltb 0 (length b) && eqb (countIn b) (length b)))
 
 -- ---- what may become of a block
 
@@ -55,9 +55,9 @@ pub data Records : ℕ → List ℕ → List ℕ → Type 0 where
 -- the same text stands before a null. "Histograms and logger contents stay as they are": raw words are those that were there
 pub data Grown : Part → Part → Type 0 where
   as-is : (p : Part) → Grown p p
-  table : (h w : ℕ) {t t′ : List ℕ} (raw : List ℕ) → mayGrow (rowOf (low h)) ≡ true → Records (rowOf (low h) .subs .count) t t′
+  table : (h w : ℕ) {t t′ : List ℕ} (raw : List ℕ) → mayGrow (kindOf (low h)) ≡ true → Records (kindOf (low h) .subs .count) t t′
       → Grown (record { words = h ∷ (w ∷ t); raw = raw }) (record { words = recounted (h ∷ (w ∷ t′)); raw = raw })
-  title : (h : ℕ) (t t′ raw : List ℕ) → isText (rowOf (low h)) ≡ true → nulled t′ ≡ true → beforeNull (bytesOf t′) ≡ beforeNull (bytesOf t)
+  title : (h : ℕ) (t t′ raw : List ℕ) → isText (kindOf (low h)) ≡ true → nulled t′ ≡ true → beforeNull (bytesOf t′) ≡ beforeNull (bytesOf t)
       → Grown (record { words = h ∷ t; raw = raw }) (record { words = recounted (h ∷ t′); raw = raw })
 
 -- ---- what may become of a file

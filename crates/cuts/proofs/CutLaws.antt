@@ -13,7 +13,7 @@ use Rattle.words.specs.Words.{high, wordsOf, Holds}
 use Rattle.rules.specs.declared.Row.{Row}
 use Rattle.rules.specs.declared.Subs.{Subs}
 use Rattle.rules.specs.declared.Tested.the-variants.{Good}
-use Rattle.rules.specs.Block.{records}
+use Rattle.rules.specs.Block.{leastOf, records}
 use Rattle.rules.specs.Slim.{counted, cutTo, cutText, slimRecords, headBy, slimBy, wordsIn}
 use Rattle.rules.proofs.BlockLaws.{then-good, behind-good, recorded-says}
 use Rattle.cuts.specs.Cut.{WroteWords, HasRoom, Cuts}
@@ -40,7 +40,7 @@ module _ (r : Row) (b : List ℕ) where
   unfolding headBy
   head-text x t = rw (x, t)
 
-  pub head-plain : r .exact ≡ false → r .text ≡ false → r .subs .count ≡ 0 → headBy r b ≡ cutTo (r .least) b
+  pub head-plain : r .exact ≡ false → r .text ≡ false → r .subs .count ≡ 0 → headBy r b ≡ cutTo (leastOf r b) b
   unfolding headBy
   head-plain x t e = rw (x, t, eq-eqb (r .subs .count) 0 e)
 
@@ -110,16 +110,24 @@ module _ {r : Row} {b : List ℕ} (c : Cuts r b) where
   pub text-words : r .exact ≡ false → r .text ≡ true → length (wordsIn (slimBy r b [])) ≡ length (cutText b)
   text-words x t = ap length (head-alone (c .sound .alone t) ∙ head-text r b x t)
 
-  pub plain-words : r .exact ≡ false → r .text ≡ false → length (wordsIn (slimBy r b [])) ≡ r .least
+  -- its least words are some, and fewer than 256
+  pub least-some : r .exact ≡ false → 1 ≤ leastOf r b
+  unfolding leastOf
+  least-some x = omega (arith, c .sound .some x)
+
+  pub least-byte : r .exact ≡ false → leastOf r b < 256
+  least-byte x = omega (arith, c .long x, c .short x)
+
+  pub plain-words : r .exact ≡ false → r .text ≡ false → length (wordsIn (slimBy r b [])) ≡ leastOf r b
   plain-words x t = go (r .subs .count) refl
     where
-      go : (k : ℕ) → r .subs .count ≡ k → length (wordsIn (slimBy r b [])) ≡ r .least
-      go zero e = ap length (head-alone e ∙ head-plain r b x t e) ∙ cut-length (r .least) b (c .sound .some x) (c .long x)
+      go : (k : ℕ) → r .subs .count ≡ k → length (wordsIn (slimBy r b [])) ≡ leastOf r b
+      go zero e = ap length (head-alone e ∙ head-plain r b x t e) ∙ cut-length (leastOf r b) b (least-some x) (c .long x)
       go (suc k) e =
           let some : 0 < r .subs .count = omega arith in
           let n = records-length (r .subs) (r .subs .count) (drop 2 b) (c .sound .sub-some some) (c .subs) in
           let h = ap length (head-subs r b x t (λ z. omega arith)) in
-          slim-length r b ∙ omega (arith, c .sound .sum x t some)
+          slim-length r b ∙ omega (arith, c .sound .sum x t some, c .sound .fixed some b)
 
   -- a slim form is no longer than its block
   pub slim-short : length (wordsIn (slimBy r b [])) ≤ length b
@@ -128,5 +136,5 @@ module _ {r : Row} {b : List ℕ} (c : Cuts r b) where
     where
       go : (x t : Bool) → r .exact ≡ x → r .text ≡ t → length (wordsIn (slimBy r b [])) ≤ length b
       go true t e f = omega (arith, exact-words e)
-      go false true e f = omega (arith, text-words e f, text-short (drop 1 b), length-drop 1 b, c .sound .some e, c .long e)
+      go false true e f = omega (arith, text-words e f, text-short (drop 1 b), length-drop 1 b, least-some e, c .long e)
       go false false e f = omega (arith, plain-words e f, c .long e)

@@ -8,7 +8,7 @@ use Rattle.words.specs.Words.{bytesOf}
 use Rattle.text.specs.Text.{Wrote}
 use Rattle.rules.specs.declared.Row.{Row}
 use Rattle.rules.specs.declared.Tested.the-variants.{Good}
-use Rattle.rules.specs.Block.{records, nulled}
+use Rattle.rules.specs.Block.{leastOf, records, nulled}
 
 -- a call wrote these words, and answered how many bytes they are
 abbrev pub WroteWords : List ℕ → List ℕ → List ℕ → ℕ → Type 0
@@ -20,7 +20,7 @@ HasRoom ws out = 2 * length ws ≤ length out
 
 -- a row whose numbers fit: counts are one byte, and a block with sub-blocks is its first two words and they
 pub record Sound (r : Row) : Type 0 where
-  pub one-byte : r .least < 256
+  pub one-byte : r .exact ≡ false → r .least < 256
   pub sub-one-byte : r .subs .least < 256
   pub few : r .subs .count ≤ 3
   pub some : r .exact ≡ false → 1 ≤ r .least
@@ -28,11 +28,12 @@ pub record Sound (r : Row) : Type 0 where
   pub sum : r .exact ≡ false → r .text ≡ false → 0 < r .subs .count → r .least ≡ 2 + r .subs .count * r .subs .least
   pub whole : r .exact ≡ true → r .subs .count ≡ 0
   pub alone : r .text ≡ true → r .subs .count ≡ 0
+  pub fixed : 0 < r .subs .count → (b : List ℕ) → leastOf r b ≡ r .least
 
 -- a block that was found good by such a row, and counts itself in one byte unless its length is exact
 pub record Cuts (r : Row) (b : List ℕ) : Type 0 where
   pub sound : Sound r
-  pub long : r .exact ≡ false → r .least ≤ length b
+  pub long : r .exact ≡ false → leastOf r b ≤ length b
   pub short : r .exact ≡ false → length b < 256
   pub null : r .text ≡ true → nulled (drop 1 b) ≡ true
   pub subs : records (r .subs) (r .subs .count) (drop 2 b) ≡ Good

@@ -1,5 +1,6 @@
 // The slim form of a block, by any row: how many words it has, and its bytes. No table stands here.
 use rules::Row;
+use rules::least_of;
 use text::put::put_byte;
 use text::put::put_bytes;
 use text::read::before_null;
@@ -83,7 +84,7 @@ fn put_head(out: &mut [u8], b: &[u8], row: Row) -> usize
         return put_text_block(out, b);
     }
     if row.subs.count == 0 {
-        return put_cut(out, b, row.least);
+        return put_cut(out, b, least_of(b, row));
     }
     let a = put_counted(out, b, row.least);
     a + put_word(&mut out[a..], word(b, 1))
@@ -126,5 +127,5 @@ pub fn slim_words(b: &[u8], row: Row) -> usize
     if row.text {
         return text_words(before_null(rest(b, 1))) + 1;
     }
-    row.least
+    least_of(b, row)
 }

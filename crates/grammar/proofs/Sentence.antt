@@ -12,10 +12,10 @@ use Rattle.words.specs.Words.{low}
 use Rattle.blocks.specs.Walk.{endMarker, Part}
 use Rattle.tables.specs.declared.setup.Setup.{Setup}
 use Rattle.tables.specs.declared.order.Due.{Due}
-use Rattle.tables.specs.Table.{rowOf}
+use Rattle.tables.specs.Table.{rowOf, kindOf}
 use Rattle.tables.specs.Setup.{noSetup}
-use Rattle.tables.specs.Order.{either, only, isDue, passedOver, dueAfter, dueAfterResults}
-use Rattle.grammar.specs.Grammar.{Blocks, knownAfter, End, end, pass, Then, here, Either, Spectrum, Statistics, Measurement, Buffer, Ordered, ordered}
+use Rattle.tables.specs.Order.{either, only, isDue, passedOver, dueAfter, dueAfterProfiles, dueAfterResults}
+use Rattle.grammar.specs.Grammar.{Blocks, knownAfter, End, end, pass, Then, here, Either, Spectrum, Statistics, Measurement, Buffer, Contents, Ordered, ordered}
 use Rattle.grammar.proofs.Takes.{wordOf, takes, takes-either, key-listed, taken, listed-takes, takes-passed}
 
 -- the blocks that are taken where this is due are those of the grammar; what is due may depend on what is known
@@ -28,11 +28,11 @@ unfolding takes isDue
 due-at-end k s e = eqb-true endMarker k (sym (or-self _) ∙ e)
 
 -- where no listed block is due, none is taken
-takes-none : (k : ℕ) → rowOf (low k) .listed ≡ false → eqb k 0x01 ≡ false → (s : Setup) (ps : List Part) → takes (only k) s ps ≡ true → End s ps × (endMarker ≡ k)
+takes-none : (k : ℕ) → kindOf (low k) .listed ≡ false → eqb k 0x01 ≡ false → (s : Setup) (ps : List Part) → takes (only k) s ps ≡ true → End s ps × (endMarker ≡ k)
 takes-none k l q s [] e = (end, due-at-end k s e)
-takes-none k l q s (p ∷ ps) e = go (rowOf (low (wordOf p)) .listed) refl (takes-none k l q s ps)
+takes-none k l q s (p ∷ ps) e = go (kindOf (low (wordOf p)) .listed) refl (takes-none k l q s ps)
   where
-    go : (t : Bool) → rowOf (low (wordOf p)) .listed ≡ t → (takes (only k) s ps ≡ true → End s ps × (endMarker ≡ k)) → End s (p ∷ ps) × (endMarker ≡ k)
+    go : (t : Bool) → kindOf (low (wordOf p)) .listed ≡ t → (takes (only k) s ps ≡ true → End s ps × (endMarker ≡ k)) → End s (p ∷ ps) × (endMarker ≡ k)
     go true h ih = absurd (false≢true (sym l ∙ sym (key-listed (wordOf p) (taken k s p ps h e .0 .key-is)) ∙ h))
     go false h ih = let r = ih (sym (takes-passed k s p ps q h) ∙ e) in (pass p (record { unlisted = h }) (r .0), r .1)
 
@@ -46,13 +46,13 @@ unfolding rowOf
 reads-end s ps = (λ e. takes-none endMarker refl refl s ps e .0, end-takes)
 
 -- a listed block is due, and then what follows it
-module _ (k : ℕ) {Next : Blocks} (l : rowOf (low k) .listed ≡ true) (q : eqb k 0x01 ≡ false) (next : Reads (λ s. dueAfter s k) Next) where
+module _ (k : ℕ) {Next : Blocks} (l : kindOf (low k) .listed ≡ true) (q : eqb k 0x01 ≡ false) (next : Reads (λ s. dueAfter s k) Next) where
   takes-then : (s : Setup) (ps : List Part) → takes (only k) s ps ≡ true → Then k Next s ps
   unfolding rowOf
-  takes-then s [] e = absurd (false≢true (ap (λ (i : ℕ). rowOf (low i) .listed) (due-at-end k s e) ∙ l))
-  takes-then s (p ∷ ps) e = go (rowOf (low (wordOf p)) .listed) refl (takes-then s ps)
+  takes-then s [] e = absurd (false≢true (ap (λ (i : ℕ). kindOf (low i) .listed) (due-at-end k s e) ∙ l))
+  takes-then s (p ∷ ps) e = go (kindOf (low (wordOf p)) .listed) refl (takes-then s ps)
     where
-      go : (t : Bool) → rowOf (low (wordOf p)) .listed ≡ t → (takes (only k) s ps ≡ true → Then k Next s ps) → Then k Next s (p ∷ ps)
+      go : (t : Bool) → kindOf (low (wordOf p)) .listed ≡ t → (takes (only k) s ps ≡ true → Then k Next s ps) → Then k Next s (p ∷ ps)
       go true h ih = let r = taken k s p ps h e in here p (r .0) (next (knownAfter s p) ps .0 (r .1))
       go false h ih = pass p (record { unlisted = h }) (ih (sym (takes-passed k s p ps q h) ∙ e))
 
@@ -95,6 +95,21 @@ reads-spectrum {Next} f g h s ps = go (eqb (s .function) 2) (eqb (s .function) 3
     go false true = g s ps
     go false false = h s ps
 
+-- and after the profiles by the model
+reads-contents : Reads (λ s. only 0x07) Measurement → Reads (λ s. either 0x0F 0x07) (Either Buffer Measurement) → Reads (λ s. dueAfterProfiles (s .model)) Contents
+unfolding dueAfterProfiles
+reads-contents f g s ps = go (eqb (s .model) 953)
+  where
+    G : Bool → Type 0
+    G t = cond t (Measurement s ps) (Either Buffer Measurement s ps)
+
+    d : Bool → Due
+    d t = cond t (only 0x07) (either 0x0F 0x07)
+
+    go : (t : Bool) → (takes (d t) s ps ≡ true → G t) × (G t → takes (d t) s ps ≡ true)
+    go true = f s ps
+    go false = g s ps
+
 -- ---- the sentence
 
 reads-statistics : Reads (λ s. only 0x09) Statistics
@@ -114,17 +129,17 @@ unfolding dueAfter rowOf
 reads-buffer = reads-then 0x0F refl refl reads-end
 
 -- the blocks behind 01
-reads-behind : Reads (λ s. only 0x02) (Then 0x02 (Then 0x03 (Then 0x04 (Then 0x05 (Either Buffer Measurement)))))
+reads-behind : Reads (λ s. only 0x02) (Then 0x02 (Then 0x03 (Then 0x04 (Then 0x05 Contents))))
 unfolding dueAfter rowOf
 reads-behind =
-    reads-then 0x02 refl refl (reads-then 0x03 refl refl (reads-then 0x04 refl refl (reads-then 0x05 refl refl (reads-either 0x0F 0x07 refl refl reads-buffer reads-measurement))))
+    reads-then 0x02 refl refl (reads-then 0x03 refl refl (reads-then 0x04 refl refl (reads-then 0x05 refl refl (reads-contents reads-measurement (reads-either 0x0F 0x07 refl refl reads-buffer reads-measurement)))))
 
 pub takes-ordered : (ps : List Part) → takes (only 0x01) noSetup ps ≡ true → Ordered ps
 unfolding takes passedOver dueAfter rowOf
 takes-ordered [] e = absurd (omega (arith, due-at-end 0x01 noSetup e))
-takes-ordered (p ∷ ps) e = go (rowOf (low (wordOf p)) .listed) refl
+takes-ordered (p ∷ ps) e = go (kindOf (low (wordOf p)) .listed) refl
   where
-    go : (t : Bool) → rowOf (low (wordOf p)) .listed ≡ t → Ordered (p ∷ ps)
+    go : (t : Bool) → kindOf (low (wordOf p)) .listed ≡ t → Ordered (p ∷ ps)
     go true h = let r = taken 0x01 noSetup p ps h e in ordered p (r .0) (reads-behind (knownAfter noSetup p) ps .0 (r .1))
     go false h =
         let f : takes (only 0x00) noSetup ps ≡ true = simp h at e in

@@ -19,7 +19,7 @@ use Rattle.rules.specs.Slim.{slimBy, wordIn, subWordIn}
 use Rattle.words.proofs.Choice.{and-both}
 use Rattle.tables.specs.declared.setup.Setup.{Setup}
 use Rattle.tables.specs.declared.order.Due.{Due}
-use Rattle.tables.specs.Table.{rowOf}
+use Rattle.tables.specs.Table.{kindOf}
 use Rattle.tables.specs.Setup.{rowFor, slimOf, learnt, idIn}
 use Rattle.tables.specs.Order.{keyOf, either, only, isDue, passedOver, dueAfter}
 use Rattle.tables.proofs.TableLaws.{row-listed}
@@ -42,7 +42,7 @@ good (Bad num at) = false
 unfoldable pub takes : Due → Setup → List Part → Bool
 takes d s [] = isDue d endMarker
 takes d s (p ∷ ps) =
-    cond (rowOf (low (wordOf p)) .listed)
+    cond (kindOf (low (wordOf p)) .listed)
     (isDue d (keyOf (wordOf p)) && (good (kept (rowFor s (wordOf p)) (p .words)) && takes (dueAfter (knownAfter s p) (keyOf (wordOf p))) (knownAfter s p) ps))
     (takes (passedOver d) s ps)
 
@@ -57,10 +57,10 @@ judge-block : (st : State) (at : ℕ) (b raw : List ℕ) (w : Walk) (x y : Bool)
     → accepts (judge (enteredBy st at b) w) ≡ (closes w && x)
     → accepts (judge (skipped st) w) ≡ (closes w && y)
     → accepts (judge st (block at b raw w))
-    ≡ (closes w && cond (rowOf (low (getD b 0 0)) .listed) (isDue (st .due) (keyOf (getD b 0 0)) && (good (kept (rowFor (st .setup) (getD b 0 0)) b) && x)) y)
+    ≡ (closes w && cond (kindOf (low (getD b 0 0)) .listed) (isDue (st .due) (keyOf (getD b 0 0)) && (good (kept (rowFor (st .setup) (getD b 0 0)) b) && x)) y)
 unfolding accepts seenIn seenBy testedBy behind judgedBy good
 judge-block st at b raw w x y e f =
-    go (rowOf (low (getD b 0 0)) .listed) (isDue (st .due) (keyOf (getD b 0 0))) (kept r b) (row-listed (st .setup) (getD b 0 0)) refl refl
+    go (kindOf (low (getD b 0 0)) .listed) (isDue (st .due) (keyOf (getD b 0 0))) (kept r b) (row-listed (st .setup) (getD b 0 0)) refl refl
   where
     r : Row
     r = rowFor (st .setup) (getD b 0 0)
@@ -91,7 +91,7 @@ pub takes-either : (a b : ℕ) → eqb a 0x01 ≡ false → eqb b 0x01 ≡ false
     → takes (either a b) s ps ≡ (takes (only a) s ps || takes (only b) s ps)
 unfolding takes isDue passedOver
 takes-either a b p q s [] = simp or-self
-takes-either a b p q s (x ∷ xs) = go (rowOf (low (wordOf x)) .listed) (takes-either a b p q s xs)
+takes-either a b p q s (x ∷ xs) = go (kindOf (low (wordOf x)) .listed) (takes-either a b p q s xs)
   where
     next : Bool
     next = good (kept (rowFor s (wordOf x)) (x .words)) && takes (dueAfter (knownAfter s x) (keyOf (wordOf x))) (knownAfter s x) xs
@@ -111,8 +111,8 @@ key-low w = go (eqb (low w) 0x0B)
     go true = refl
     go false = omega arith
 
-pub key-listed : (w : ℕ) {k : ℕ} → keyOf w ≡ k → rowOf (low w) .listed ≡ rowOf (low k) .listed
-key-listed w {k} e = ap (λ (i : ℕ). rowOf i .listed) {x = low w} {y = low k} (sym (key-low w) ∙ ap low e)
+pub key-listed : (w : ℕ) {k : ℕ} → keyOf w ≡ k → kindOf (low w) .listed ≡ kindOf (low k) .listed
+key-listed w {k} e = ap (λ (i : ℕ). kindOf i .listed) {x = low w} {y = low k} (sym (key-low w) ∙ ap low e)
 
 pub good-is : (t : Tested) → good t ≡ true → t ≡ Good
 unfolding good
@@ -121,7 +121,7 @@ good-is (Bad num at) e = absurd (false≢true e)
 
 module _ (k : ℕ) (s : Setup) (p : Part) (ps : List Part) where
   -- a listed block that is taken
-  pub taken : rowOf (low (wordOf p)) .listed ≡ true → takes (only k) s (p ∷ ps) ≡ true
+  pub taken : kindOf (low (wordOf p)) .listed ≡ true → takes (only k) s (p ∷ ps) ≡ true
       → Listed k s p × (takes (dueAfter (knownAfter s p) k) (knownAfter s p) ps ≡ true)
   unfolding takes isDue
   taken l e =
@@ -131,11 +131,11 @@ module _ (k : ℕ) (s : Setup) (p : Part) (ps : List Part) where
       (record { key-is = key; good = good-is _ (b .0) }, rw key at (b .1))
 
   -- and the other way round
-  pub listed-takes : rowOf (low k) .listed ≡ true → Listed k s p → takes (dueAfter (knownAfter s p) k) (knownAfter s p) ps ≡ true → takes (only k) s (p ∷ ps) ≡ true
+  pub listed-takes : kindOf (low k) .listed ≡ true → Listed k s p → takes (dueAfter (knownAfter s p) k) (knownAfter s p) ps ≡ true → takes (only k) s (p ∷ ps) ≡ true
   unfolding takes isDue good
   listed-takes l h e = simp (key-listed (wordOf p) (h .key-is), l, h .key-is, eq-eqb k k refl, h .good) e
 
   -- a block that is not listed is passed over
-  pub takes-passed : eqb k 0x01 ≡ false → rowOf (low (wordOf p)) .listed ≡ false → takes (only k) s (p ∷ ps) ≡ takes (only k) s ps
+  pub takes-passed : eqb k 0x01 ≡ false → kindOf (low (wordOf p)) .listed ≡ false → takes (only k) s (p ∷ ps) ≡ takes (only k) s ps
   unfolding takes passedOver
   takes-passed q l = simp (l, q)

@@ -12,7 +12,7 @@ use Rattle.blocks.specs.Walk.{Part, joined, Wholes}
 use Rattle.rules.specs.declared.Tested.the-variants.{Good}
 use Rattle.rules.specs.Block.{kept}
 use Rattle.tables.specs.declared.setup.Setup.{Setup}
-use Rattle.tables.specs.Table.{rowOf}
+use Rattle.tables.specs.Table.{kindOf}
 use Rattle.tables.specs.Setup.{rowFor, slimOf, learnt, noSetup}
 use Rattle.tables.specs.Order.{keyOf}
 use Rattle.accept.specs.Check.{verdict}
@@ -25,7 +25,7 @@ Blocks = Setup → List Part → Type 0
 
 -- a block of an id that is not listed
 pub record Unlisted (p : Part) : Type 0 where
-  pub unlisted : rowOf (low (getD (p .words) 0 0)) .listed ≡ false
+  pub unlisted : kindOf (low (getD (p .words) 0 0)) .listed ≡ false
 
 -- a listed block with this key, good by its row
 pub record Listed (key : ℕ) (s : Setup) (p : Part) : Type 0 where
@@ -34,7 +34,7 @@ pub record Listed (key : ℕ) (s : Setup) (p : Part) : Type 0 where
 
 -- what is known after a listed block, by its slim form
 unfoldable pub knownAfter : Setup → Part → Setup
-knownAfter s p = learnt s (slimOf (p .words) (p .raw))
+knownAfter s p = learnt s (slimOf s (p .words) (p .raw))
 
 -- no listed block any more; "Others are passed over whole"
 pub data End : Setup → List Part → Type 0 where
@@ -66,10 +66,14 @@ Measurement = Then 0x07 (Spectrum (Either Statistics End))
 abbrev pub Buffer : Blocks
 Buffer = Then 0x0F End
 
--- "01 (at word 0), 02, 03, 04, 05; then either 0F with its contents, or 07, .."
+-- "then either 0F with its contents, or 07, .."; "a 953 file with 0F is 4"
+abbrev pub Contents : Blocks
+Contents s ps = cond (eqb (s .model) 953) (Measurement s ps) (Either Buffer Measurement s ps)
+
+-- "01 (at word 0), 02, 03, 04, 05; then .."
 pub data Ordered : List Part → Type 0 where
   ordered : (p : Part) {ps : List Part} → Listed 0x01 noSetup p
-      → Then 0x02 (Then 0x03 (Then 0x04 (Then 0x05 (Either Buffer Measurement)))) (knownAfter noSetup p) ps → Ordered (p ∷ ps)
+      → Then 0x02 (Then 0x03 (Then 0x04 (Then 0x05 Contents))) (knownAfter noSetup p) ps → Ordered (p ∷ ps)
 
 -- a file of the grammar: bytes of an allowed length, that are the words of such blocks and the end marker, "and no word after it"
 pub record Grammatical (file : List ℕ) : Type 0 where

@@ -146,7 +146,7 @@ fn free_id(d: u16) -> u16
     ensures { λ r. ⌜ r < 256 ⌝ }
 {
     let id = d % 256;
-    let row = row_of(id);
+    let row = row_of(945, id);
     if row.listed || id == 0x14 {
         0xA0 + id % 16
     } else {
@@ -283,7 +283,7 @@ fn put_part(
 ) -> Pen {
     let left = rest(file, start);
     let block = front(left, length);
-    let row = row_of(word(block, 0) % 256);
+    let row = row_of(945, word(block, 0) % 256);
     let put = put_block(out, pen, block, row, kinds);
     put_words(out, put, front(rest(left, length), raw_words(block)))
 }

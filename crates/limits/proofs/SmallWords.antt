@@ -12,7 +12,7 @@ use Rattle.words.proofs.WordLaws.{Below, below-drop, below-take, words-below}
 use Rattle.units.specs.Frequency.{octaves, thirds}
 use Rattle.rules.specs.Block.{recordAt, recordWord}
 use Rattle.rules.specs.Slim.{Slim, wordIn, subWordIn}
-use Rattle.tables.specs.Table.{rowOf}
+use Rattle.tables.specs.Table.{kindOf}
 use Rattle.tables.specs.Setup.{idIn}
 use Rattle.accept.specs.declared.judge.State.{State}
 use Rattle.accept.specs.declared.judge.Judged.the-variants.{Passed}
@@ -20,7 +20,8 @@ use Rattle.accept.specs.Judge.{surveyed}
 use Rattle.accept.specs.Slims.{slimsIn, slimAt, places, startOf, blockAt, rawAt}
 use Rattle.accept.proofs.Found.{Found, there, nowhere, isIn, block-at, found}
 use Rattle.accept.proofs.FoundWords.{none-at, accepted-few}
-use Rattle.reading.proofs.ReadLaws.{read-word, read-record, spectrum-id, spectrum-third, spectrum-octave, read-contents, read-counts}
+use Rattle.reading.proofs.ReadLaws.{read-word, read-record, spectrum-id, read-contents, read-counts}
+use Rattle.reading.proofs.SpectrumLaws.{spectrum-third, spectrum-octave}
 use Rattle.pages.specs.Sheet.{bandsIn}
 
 take-again : (n : ℕ) (l : List ℕ) → take (length (take n l)) l ≡ take n l
@@ -54,17 +55,17 @@ module _ (file : List ℕ) (s : State) (e : surveyed file ≡ Passed s) (small :
       start : ℕ
       start = startOf place (s .starts)
 
-      go : {x : Slim} → Found ws place start x → Below 65536 (blockAt ws start)
+      go : {x : Slim} → Found ws (s .setup .model) place start x → Below 65536 (blockAt ws start)
       go (there t) =
           let n = length (blockAt ws start) in
           subst⁻¹ (Below 65536) (block-at ws start n (t .front)) (below-take n (drop start ws) (omega arith) (below-drop start ws (words-below file small)))
       go (nowhere a n) = subst⁻¹ (Below 65536) (none-at ws start (omega (arith, accepted-few file s e))) (λ k. omega arith)
 
-  pub word-small : (id : ℕ) → isIn id (0x01 ∷ (0x02 ∷ (0x04 ∷ (0x0F ∷ [])))) ≡ true → isIn id places ≡ true → (k : ℕ) → 0 < k → k < rowOf id .least
+  pub word-small : (id : ℕ) → isIn id (0x01 ∷ (0x02 ∷ (0x04 ∷ (0x0F ∷ [])))) ≡ true → isIn id places ≡ true → (k : ℕ) → 0 < k → k < kindOf id .least
       → wordIn (slimAt id (slimsIn file)) k < 65536
   word-small id i place k h l = rw (read-word file s e id i k h l) (block-small id place k)
 
-  pub record-small : (id : ℕ) → isIn id (0x05 ∷ (0x07 ∷ (0x09 ∷ []))) ≡ true → isIn id places ≡ true → (p o : ℕ) → p < 3 → 0 < o → o < rowOf id .subs .least
+  pub record-small : (id : ℕ) → isIn id (0x05 ∷ (0x07 ∷ (0x09 ∷ []))) ≡ true → isIn id places ≡ true → (p o : ℕ) → p < 3 → 0 < o → o < kindOf id .subs .least
       → subWordIn (slimAt id (slimsIn file)) p o < 65536
   unfolding recordWord
   record-small id i place p o h k l =

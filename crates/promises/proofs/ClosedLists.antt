@@ -17,14 +17,14 @@ use Rattle.words.specs.Words.{wordsOf, bytesOf, longAt}
 use Rattle.text.specs.Fit.{fit, joined}
 use Rattle.text.specs.Text.{beforeNull}
 use Rattle.blocks.specs.Walk.{longForm, fronted, frontOf, rawOf, walk, walked, partsOf}
-use Rattle.rules.specs.Block.{then, behind, allows, obeyed, ruled, rulesIn, recorded, records, sized, nulled, readable, wholeRecords, buffered, kept}
+use Rattle.rules.specs.Block.{inForce, moreOf, leastOf, filled, then, behind, allows, obeyed, ruled, rulesIn, recorded, records, sized, nulled, readable, wholeRecords, buffered, kept}
 use Rattle.rules.specs.Slim.{counted, cutTo, textOf, cutText, slimRecords, headBy, slimBy, wordsIn, wordIn, subWordIn}
 use Rattle.tables.specs.Table.{rowOf}
 use Rattle.tables.specs.Setup.{slimOf, bandsOf, levelsOf, idIn, learnt, classesOf, rowFor}
-use Rattle.tables.specs.Order.{keyOf, isDue, passedOver, dueAfter, dueAfterResults}
+use Rattle.tables.specs.Order.{keyOf, isDue, passedOver, dueAfter, dueAfterProfiles, dueAfterResults}
 use Rattle.accept.specs.Judge.{placeOf, noted, skipped, entered, enteredBy, testedBy, judgedBy, seenBy, seenIn, closed, judge, misfit, surveyed}
 use Rattle.accept.specs.Check.{recordOf, answered, verdict, values}
-use Rattle.accept.specs.Slims.{slimPart, slims, slimsIn, slimFrom, slimAt}
+use Rattle.accept.specs.Slims.{slimPart, knownFrom, slims, slimsIn, slimFrom, slimAt}
 use Rattle.titles.specs.Title.{titleText, textAt, titleIn, titleAt, partOf, handed, titleOf}
 use Rattle.slims.specs.Copy.{slimWords, slimCopy, roomFor, replied, slimReply, outputBy}
 use Rattle.reading.specs.Known.{setupIn}
@@ -55,7 +55,7 @@ apart : (xs ys : List ℕ) → same xs ys ≡ false → xs ≡ ys → ⊥
 apart xs ys e f = false≢true (sym e ∙ ap (same xs) (sym f) ∙ same-itself xs)
 
 closed-lists : AllChange forbidden × AllTrue facts
-unfolding same Walk.joined Sheet.values facts forbidden sheetOf levelParts longHistogram endBlock bufferParts unlucky octaveParts thirdParts bandParts untitledParts lent handedBack asked fileOf levelFile octaveFile thirdFile bandFile headParts resultsPart statisticsParts longer withRecords titled alone setupBlock resultRecord octaveSpectrum thirdSpectrum classRecord histogram loggerPart recounted contents classesOf dueAfterResults accepts block01 block02 block03 block04 profile block05 block0F wordsOf bytesOf longAt beforeNull longForm fronted frontOf rawOf walk walked partsOf then behind allows obeyed ruled rulesIn recorded records sized nulled readable wholeRecords buffered kept counted cutTo textOf cutText slimRecords headBy slimBy wordsIn wordIn subWordIn rowOf slimOf bandsOf levelsOf idIn learnt rowFor keyOf isDue passedOver dueAfter placeOf noted skipped entered enteredBy testedBy judgedBy seenBy seenIn closed judge misfit surveyed recordOf answered verdict values slimPart slims slimsIn slimFrom slimAt titleText textAt titleIn titleAt slimWords slimCopy roomFor replied slimReply outputBy flatten flatMap digits decimal fit joined signed fixed signedFixed tenths setupIn further separated bytes named profileFilters bufferCodes numbersFrom levelField profileName numberEntry textEntry bufferColumn bandColumns bufferHeading recordRow recordCount recordRows texts whereThere threeIn filtersIn codesIn nameIn titleShown headLines resultLines spectrumLines statisticsLines stepIn widthIn bufferLines sheetLines sheetTexts progressIn askedFor sheetReply Sheet.replied Sheet.outputBy level bound titleOf handed partOf spectrumFilters results filterColumn bandName totalName resultHeading timeRow resultRow bandHeading bandRow totalRow classHeading classRow resultRows bandRows totalRows levelRows classRows timeIn resultRowIn bandsIn histogramIn fraction centihertz octaves thirds
+unfolding same Walk.joined Sheet.values facts forbidden sheetOf levelParts longHistogram endBlock bufferParts unlucky octaveParts thirdParts bandParts untitledParts lent handedBack asked fileOf levelFile octaveFile thirdFile bandFile headParts resultsPart statisticsParts longer withRecords titled alone setupBlock resultRecord octaveSpectrum thirdSpectrum classRecord histogram loggerPart recounted contents classesOf dueAfterResults accepts block01 block02 block03 block04 profile block05 block0F wordsOf bytesOf longAt beforeNull longForm fronted frontOf rawOf walk walked partsOf inForce moreOf leastOf filled then behind allows obeyed ruled rulesIn recorded records sized nulled readable wholeRecords buffered kept counted cutTo textOf cutText slimRecords headBy slimBy wordsIn wordIn subWordIn rowOf slimOf bandsOf levelsOf idIn learnt rowFor keyOf isDue passedOver dueAfter dueAfterProfiles placeOf noted skipped entered enteredBy testedBy judgedBy seenBy seenIn closed judge misfit surveyed recordOf answered verdict values slimPart knownFrom slims slimsIn slimFrom slimAt titleText textAt titleIn titleAt slimWords slimCopy roomFor replied slimReply outputBy flatten flatMap digits decimal fit joined signed fixed signedFixed tenths setupIn further separated bytes named profileFilters bufferCodes numbersFrom levelField profileName numberEntry textEntry bufferColumn bandColumns bufferHeading recordRow recordCount recordRows texts whereThere threeIn filtersIn codesIn nameIn titleShown headLines resultLines spectrumLines statisticsLines stepIn widthIn bufferLines sheetLines sheetTexts progressIn askedFor sheetReply Sheet.replied Sheet.outputBy level bound titleOf handed partOf spectrumFilters results filterColumn bandName totalName resultHeading timeRow resultRow bandHeading bandRow totalRow classHeading classRow resultRows bandRows totalRows levelRows classRows timeIn resultRowIn bandsIn histogramIn fraction centihertz octaves thirds
 closed-lists = ((record { accepted = accepts-found _ refl; answer-is = refl; other = apart _ _ refl }, (record { accepted = accepts-found _ refl; answer-is = refl; other = apart _ _ refl }, (record { accepted = accepts-found _ refl; answer-is = refl; other = apart _ _ refl }, (record { accepted = accepts-found _ refl; answer-is = refl; other = apart _ _ refl }, (record { accepted = accepts-found _ refl; answer-is = refl; other = apart _ _ refl }, (record { accepted = accepts-found _ refl; answer-is = refl; other = apart _ _ refl }, (record { accepted = accepts-found _ refl; answer-is = refl; other = apart _ _ refl }, tt))))))), (refl, (refl, (refl, (refl, (apart _ _ refl, (apart _ _ refl, (apart _ _ refl, (apart _ _ refl, (refl, (refl, (refl, (refl, (refl, (refl, (refl, (refl, (refl, (refl, (refl, (refl, (refl, tt))))))))))))))))))))))
 
 pub forbidden-change : AllChange forbidden

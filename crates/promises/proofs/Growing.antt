@@ -7,7 +7,7 @@ use lib.ListN.{length}
 use Rattle.words.specs.Words.{low}
 use Rattle.blocks.specs.Walk.{longForm, Part}
 use Rattle.rules.specs.Slim.{counted}
-use Rattle.tables.specs.Table.{rowOf}
+use Rattle.tables.specs.Table.{rowOf, kindOf}
 use Rattle.additions.specs.Additions.{mayGrow, countIn, mayBePut, recounted, Records, rest, next, Grown, as-is, table, Adds, end, block, put, Additions, additions}
 use Rattle.additions.proofs.RecordGrowth.{counted-low, counted-high}
 use Rattle.promises.specs.Files.{alone, longer, withRecords}
@@ -16,17 +16,17 @@ use Rattle.promises.specs.Instances.{strange, between, behindHeader}
 -- ---- blocks
 
 -- a table block, by its sub-blocks and what is behind them
-pub table-grown : (h w : ℕ) (raw : List ℕ) {k : ℕ} {t t′ : List ℕ} → mayGrow (rowOf (low h)) ≡ true → rowOf (low h) .subs .count ≡ k → Records k t t′
+pub table-grown : (h w : ℕ) (raw : List ℕ) {k : ℕ} {t t′ : List ℕ} → mayGrow (kindOf (low h)) ≡ true → kindOf (low h) .subs .count ≡ k → Records k t t′
     → Grown (record { words = recounted (h ∷ (w ∷ t)); raw = raw }) (record { words = recounted (h ∷ (w ∷ t′)); raw = raw })
 unfolding recounted counted
 table-grown h w raw {k} {t} {t′} may e rs =
     let n = suc (suc (length t)) in
     let l = counted-low h n in
-    let by : Records (rowOf (low (low h + 256 * n)) .subs .count) t t′ = rw (l, e) rs in
+    let by : Records (kindOf (low (low h + 256 * n)) .subs .count) t t′ = rw (l, e) rs in
     rw l at (table (low h + 256 * n) w raw (rw l may) by)
 
 -- a block with no sub-blocks
-pub longer-grown : (h w : ℕ) (t more : List ℕ) → mayGrow (rowOf (low h)) ≡ true → rowOf (low h) .subs .count ≡ 0
+pub longer-grown : (h w : ℕ) (t more : List ℕ) → mayGrow (kindOf (low h)) ≡ true → kindOf (low h) .subs .count ≡ 0
     → Grown (longer [] (h ∷ (w ∷ t))) (longer more (h ∷ (w ∷ t)))
 unfolding longer alone
 longer-grown h w t more may none = rw (append-nil t) (table-grown h w [] may none (rest t more))
@@ -39,7 +39,7 @@ record-longer h s more rs =
     rw (append-nil s) (rw (counted-low h n) at (next (low h + 256 * n) s more (counted-high h n) rs))
 
 -- a block with three
-pub records-grown : (id word a b c : ℕ) (x y z more : List ℕ) → mayGrow (rowOf (low id)) ≡ true → rowOf (low id) .subs .count ≡ 3
+pub records-grown : (id word a b c : ℕ) (x y z more : List ℕ) → mayGrow (kindOf (low id)) ≡ true → kindOf (low id) .subs .count ≡ 3
     → Grown (withRecords [] id word (a ∷ x) (b ∷ y) (c ∷ z)) (withRecords more id word (a ∷ x) (b ∷ y) (c ∷ z))
 unfolding withRecords alone
 records-grown id word a b c x y z more may three =

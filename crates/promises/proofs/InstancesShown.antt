@@ -10,11 +10,11 @@ use Rattle.words.specs.Words.{wordsOf, bytesOf, longAt}
 use Rattle.words.proofs.WordLaws.{words-of-bytes, bytes-length}
 use Rattle.text.specs.Text.{beforeNull}
 use Rattle.blocks.specs.Walk.{longForm, fronted, frontOf, rawOf, walk, walked, Part, partsOf, joined}
-use Rattle.rules.specs.Block.{then, behind, allows, obeyed, ruled, rulesIn, recorded, records, sized, nulled, readable, wholeRecords, buffered, kept}
+use Rattle.rules.specs.Block.{inForce, moreOf, leastOf, filled, then, behind, allows, obeyed, ruled, rulesIn, recorded, records, sized, nulled, readable, wholeRecords, buffered, kept}
 use Rattle.rules.specs.Slim.{counted, cutTo, textOf, cutText, slimRecords, headBy, slimBy, wordIn, subWordIn}
 use Rattle.tables.specs.Table.{rowOf}
 use Rattle.tables.specs.Setup.{slimOf, bandsOf, levelsOf, idIn, learnt, classesOf, rowFor}
-use Rattle.tables.specs.Order.{keyOf, isDue, passedOver, dueAfter, dueAfterResults}
+use Rattle.tables.specs.Order.{keyOf, isDue, passedOver, dueAfter, dueAfterProfiles, dueAfterResults}
 use Rattle.additions.specs.Additions.{mayGrow, isText, recounted, rest, Grown, title, Additions, partsIn}
 use Rattle.accept.specs.Judge.{placeOf, noted, skipped, entered, enteredBy, testedBy, judgedBy, seenBy, seenIn, closed, judge, misfit, surveyed}
 use Rattle.grammar.proofs.Takes.{accepts}
@@ -109,7 +109,7 @@ unfolding bandFile headParts
 band-adds = header-adds header-grown (grown-append (head-grown 2) (one logger-grown none))
 
 pub instances-shown : AllShown instances
-unfolding instances partsIn fileOf areBytes levelFile octaveFile thirdFile bandFile headParts resultsPart statisticsParts longer withRecords titled alone setupBlock resultRecord octaveSpectrum thirdSpectrum classRecord histogram loggerPart words strange between behindHeader recounted counted block01 block02 profile numbersFrom wordsOf bytesOf longAt longForm fronted frontOf rawOf walk walked partsOf joined then behind allows obeyed ruled rulesIn recorded records sized nulled readable wholeRecords buffered kept cutTo textOf cutText slimRecords headBy slimBy wordIn subWordIn rowOf slimOf bandsOf levelsOf idIn learnt classesOf rowFor keyOf isDue passedOver dueAfter dueAfterResults placeOf noted skipped entered enteredBy testedBy judgedBy seenBy seenIn closed judge misfit surveyed accepts
+unfolding instances partsIn fileOf areBytes levelFile octaveFile thirdFile bandFile headParts resultsPart statisticsParts longer withRecords titled alone setupBlock resultRecord octaveSpectrum thirdSpectrum classRecord histogram loggerPart words strange between behindHeader recounted counted block01 block02 profile numbersFrom wordsOf bytesOf longAt longForm fronted frontOf rawOf walk walked partsOf joined inForce moreOf leastOf filled then behind allows obeyed ruled rulesIn recorded records sized nulled readable wholeRecords buffered kept cutTo textOf cutText slimRecords headBy slimBy wordIn subWordIn rowOf slimOf bandsOf levelsOf idIn learnt classesOf rowFor keyOf isDue passedOver dueAfter dueAfterProfiles dueAfterResults placeOf noted skipped entered enteredBy testedBy judgedBy seenBy seenIn closed judge misfit surveyed accepts
 instances-shown = (
   shown levelFile level-adds refl refl (lit≤ tt) refl,
   (

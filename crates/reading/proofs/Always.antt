@@ -18,15 +18,16 @@ use Rattle.blocks.proofs.Steps.{walkFrom, walk-start, walk-over}
 use Rattle.rules.specs.declared.Tested.the-variants.{Good}
 use Rattle.rules.specs.Block.{kept}
 use Rattle.rules.specs.Slim.{Slim}
-use Rattle.tables.specs.Table.{rowOf}
+use Rattle.tables.specs.declared.setup.Setup.{Setup}
+use Rattle.tables.specs.Table.{kindOf}
 use Rattle.tables.specs.Setup.{rowFor, slimOf}
 use Rattle.tables.specs.Order.{keyOf, isDue}
 use Rattle.accept.specs.declared.judge.State.{State}
 use Rattle.accept.specs.declared.judge.Judged.the-variants.{Passed}
 use Rattle.accept.specs.Judge.{firstState, skipped, enteredBy, closed, judge, misfit, surveyed}
-use Rattle.accept.specs.Slims.{slimPart, slims, slimsIn, partAt}
+use Rattle.accept.specs.Slims.{slimPart, knownFrom, slims, slimsIn, partAt}
 use Rattle.accept.proofs.Seen.{no-denied, Through, unlisted, listed, closed-passed}
-use Rattle.accept.proofs.Onward.{no-fuel, passes, slims-over, slims-block}
+use Rattle.accept.proofs.Onward.{no-fuel, passes, known-through, slims-over, slims-block}
 use Rattle.accept.proofs.FoundWords.{accepted-few}
 
 -- a listed block that comes in a state: it is due, and good by its row
@@ -41,16 +42,16 @@ unfolding closed
 closed-due s s′ (End at left) e = cond-first (isDue (s .due) endMarker) e no-denied .0
 closed-due s s′ (Refused num at) e = absurd (no-denied e)
 
-part-none : (p : Part) → rowOf (low (getD (p .words) 0 0)) .listed ≡ false → slimPart p ≡ []
+part-none : (k : Setup) (p : Part) → kindOf (low (getD (p .words) 0 0)) .listed ≡ false → slimPart k p ≡ []
 unfolding slimPart
-part-none p l = rw l
+part-none k p l = rw l
 
-part-one : (p : Part) → rowOf (low (getD (p .words) 0 0)) .listed ≡ true → slimPart p ≡ slimOf (p .words) (p .raw) ∷ []
+part-one : (k : Setup) (p : Part) → kindOf (low (getD (p .words) 0 0)) .listed ≡ true → slimPart k p ≡ slimOf k (p .words) (p .raw) ∷ []
 unfolding slimPart
-part-one p l = rw l
+part-one k p l = rw l
 
 module _ (P : State → List Slim → Type 0) (pass : (s : State) (xs : List Slim) → P s xs → P (skipped s) xs)
-    (come : (s : State) (at : ℕ) (b raw : List ℕ) (xs : List Slim) → Comes s b → P s xs → P (enteredBy s at b) (xs ++ (slimOf b raw ∷ []))) where
+    (come : (s : State) (at : ℕ) (b raw : List ℕ) (xs : List Slim) → Comes s b → P s xs → P (enteredBy s at b) (xs ++ (slimOf (s .setup) b raw ∷ []))) where
   module _ (ws : List ℕ) (few : length ws ≤ 32768) where
     -- the end, with the slim blocks before it
     abbrev Ended : State → List Slim → Type 0
@@ -58,40 +59,44 @@ module _ (P : State → List Slim → Type 0) (pass : (s : State) (xs : List Sli
 
     -- the blocks from a cursor on, up to the end of an accepted file
     abbrev Later : ℕ → Type 0
-    Later m = (c : Cursor) (s s′ : State) (xs : List Slim) → P s xs → judge s (walkFrom m ws c) ≡ Passed s′ → Ended s′ (xs ++ slims (partsOf (walkFrom m ws c)))
+    Later m = (c : Cursor) (s s′ : State) (xs : List Slim) → P s xs → judge s (walkFrom m ws c) ≡ Passed s′ → Ended s′ (xs ++ slims (s .setup) (partsOf (walkFrom m ws c)))
 
     always-over : (m : ℕ) (c : Cursor) (s s′ : State) (xs : List Slim) (stop : Stop) → stepAt ws c ≡ Over stop → P s xs
-        → judge s (walkFrom (suc m) ws c) ≡ Passed s′ → Ended s′ (xs ++ slims (partsOf (walkFrom (suc m) ws c)))
+        → judge s (walkFrom (suc m) ws c) ≡ Passed s′ → Ended s′ (xs ++ slims (s .setup) (partsOf (walkFrom (suc m) ws c)))
     unfolding judge
     always-over m c s s′ xs stop q h e =
         let last : closed s stop ≡ Passed s′ = sym (ap (judge s) (walk-over m ws c stop q)) ∙ e in
-        rw (slims-over m ws c stop q, append-nil)
+        rw (slims-over m ws c (s .setup) stop q, append-nil)
         (subst (λ (st : State). Ended st xs) (closed-passed s s′ stop last) (h, closed-due s s′ stop last))
 
     -- one block more: the state behind it, and its slim form if it is listed
     always-next : (s s′ : State) (start len : ℕ) (xs ys : List Slim) → Through s start (take len (drop start ws)) s′ → P s xs
-        → (zs : List Slim) × (P s′ zs × (xs ++ (slimPart (partAt ws start len) ++ ys) ≡ zs ++ ys))
+        → (zs : List Slim) × (P s′ zs × (xs ++ (slimPart (s .setup) (partAt ws start len) ++ ys) ≡ zs ++ ys))
     unfolding partAt
     always-next s s′ start len xs ys (unlisted l e) h =
-        (xs, (subst (λ (st : State). P st xs) e (pass s xs h), rw (part-none (partAt ws start len) l)))
+        (xs, (subst (λ (st : State). P st xs) e (pass s xs h), rw (part-none (s .setup) (partAt ws start len) l)))
     always-next s s′ start len xs ys (listed l d g e) h =
         let b = take len (drop start ws) in
-        let x = slimOf b (take (rawOf b) (drop (start + len) ws)) in
+        let x = slimOf (s .setup) b (take (rawOf b) (drop (start + len) ws)) in
         let comes : Comes s b = record { due = d; good = g; few = rw (length-take, length-drop) (omega arith) } in (
           xs ++ (x ∷ []),
-          (subst (λ (st : State). P st (xs ++ (x ∷ []))) e (come s start b _ xs comes h), rw (part-one (partAt ws start len) l) (sym (append-assoc xs (x ∷ []) ys))),
+          (subst (λ (st : State). P st (xs ++ (x ∷ []))) e (come s start b _ xs comes h), rw (part-one (s .setup) (partAt ws start len) l) (sym (append-assoc xs (x ∷ []) ys))),
         )
+
+    known-there : (s s′ : State) (start len : ℕ) → Through s start (take len (drop start ws)) s′ → s′ .setup ≡ knownFrom (s .setup) (partAt ws start len)
+    unfolding partAt
+    known-there s s′ start len t = known-through s s′ start (partAt ws start len) t
 
     always-judged : (m : ℕ) → Later m
     always-judged zero c s s′ xs h e = absurd (no-fuel ws s s′ c e)
     always-judged (suc m) c s s′ xs h e = go (stepAt ws c) refl (always-judged m)
       where
-        go : (y : Step) → stepAt ws c ≡ y → Later m → Ended s′ (xs ++ slims (partsOf (walkFrom (suc m) ws c)))
+        go : (y : Step) → stepAt ws c ≡ y → Later m → Ended s′ (xs ++ slims (s .setup) (partsOf (walkFrom (suc m) ws c)))
         go (Over stop) q later = always-over m c s s′ xs stop q h e
         go (Block id nn start len next) q later =
             let p = passes ws m c s s′ id nn start len next q e in
-            let more = always-next s (p .state) start len xs (slims (partsOf (walkFrom m ws next))) (p .through) h in
-            rw (slims-block m ws c id nn start len next q, more .1 .1) (later next (p .state) s′ (more .0) (more .1 .0) (p .goes))
+            let more = always-next s (p .state) start len xs (slims (p .state .setup) (partsOf (walkFrom m ws next))) (p .through) h in
+            rw (slims-block m ws c (s .setup) id nn start len next q, ← known-there s (p .state) start len (p .through), more .1 .1) (later next (p .state) s′ (more .0) (more .1 .0) (p .goes))
 
   pub always : P firstState [] → (file : List ℕ) (s : State) → surveyed file ≡ Passed s → P s (slimsIn file) × (isDue (s .due) endMarker ≡ true)
   unfolding surveyed slimsIn

@@ -17,9 +17,9 @@ use Rattle.blocks.proofs.Fronts.{front-cuts}
 use Rattle.rules.specs.Block.{nulled, readable}
 use Rattle.rules.specs.Slim.{Slim, cutText, headBy, slimBy}
 use Rattle.rules.proofs.BlockLaws.{kept-says, kept-short}
-use Rattle.tables.specs.Table.{rowOf}
+use Rattle.tables.specs.Table.{rowOf, kindOf}
 use Rattle.tables.specs.Setup.{slimOf}
-use Rattle.tables.proofs.TableLaws.{row-exact, row-text}
+use Rattle.tables.proofs.TableLaws.{row-exact, row-text, row-at}
 use Rattle.accept.specs.declared.judge.State.{State}
 use Rattle.accept.specs.declared.judge.Judged.the-variants.{Passed}
 use Rattle.accept.specs.Judge.{surveyed}
@@ -49,27 +49,28 @@ short-few ws n f l small = go (front-cuts ws n f .size)
     go (inl (t, two, k)) = absurd (false≢true (sym l ∙ t))
     go (inr (t, k)) = omega arith
 
-module _ {ws : List ℕ} (small : Below 65536 ws) {start : ℕ} {x : Slim} where
-  title-block : There ws 0x03 start x → (length (blockAt ws start) ≤ 255) × (nulled (drop 1 (blockAt ws start)) ≡ true)
+module _ {ws : List ℕ} (small : Below 65536 ws) {model start : ℕ} {x : Slim} where
+  title-block : There ws model 0x03 start x → (length (blockAt ws start) ≤ 255) × (nulled (drop 1 (blockAt ws start)) ≡ true)
   unfolding readable longForm rowOf
   title-block t =
       let b = blockAt ws start in
       let w = getD b 0 0 in
       let id : low w ≡ 0x03 = place-id w 0x03 (omega arith) (λ z. omega arith) (λ z. omega arith) (t .place-is) in
       let kept = kept-says _ b (t .good) in
-      let exact = row-exact (t .setup) w ∙ ap (λ (i : ℕ). rowOf i .exact) id in
-      let text = row-text (t .setup) w ∙ ap (λ (i : ℕ). rowOf i .text) id in
+      let exact = row-exact (t .setup) w ∙ ap (λ (i : ℕ). kindOf i .exact) id in
+      let text = row-text (t .setup) w ∙ ap (λ (i : ℕ). kindOf i .text) id in
       let first : w ≡ getD (drop start ws) 0 0 =
       ap (λ (l : List ℕ). getD l 0 0) (block-at ws start (length b) (t .front)) ∙ getD-take (length b) (drop start ws) 0 0 (front-cuts _ _ (t .front) .some) in
       let short : longForm w ≡ false = simp (ne-eqb (high w) 0 (kept-short kept exact), id) in
       (short-few (drop start ws) (length b) (t .front) (rw first at short) (below-drop start ws small 0), rw text at (kept .null))
 
-  found-brief : Found ws 0x03 start x → length (beforeNull (bytesOf (drop 1 (x .head)))) ≤ 507
+  found-brief : Found ws model 0x03 start x → length (beforeNull (bytesOf (drop 1 (x .head)))) ≤ 507
   unfolding slimOf slimBy headBy cutText rowOf beforeNull bytesOf
   found-brief (there t) =
       let b = blockAt ws start in
       let id = place-id (getD b 0 0) 0x03 (omega arith) (λ z. omega arith) (λ z. omega arith) (t .place-is) in
-      let head : x .head ≡ headBy (rowOf 0x03) b = ap (λ (y : Slim). y .head) (t .slim) ∙ ap (λ (i : ℕ). headBy (rowOf i) b) id in
+      let row = row-at (λ r. headBy r b ≡ cutText b) 0x03 refl refl refl (t .setup) (getD b 0 0) id in
+      let head : x .head ≡ cutText b = ap (λ (y : Slim). y .head) (t .slim) ∙ row in
       let text = ap (λ (l : List ℕ). length (beforeNull (bytesOf (drop 1 l)))) head ∙ ap length (text-kept (drop 1 b)) in
       let block = title-block t in
       omega (arith, text, text-less (drop 1 b) (block .1), length-drop 1 b)

@@ -6,7 +6,7 @@ use Prim.Native.Nat.{ℕ, zero, suc, _+_, _-_, _≤_}
 use native.Mathlib.Omega.{arith}
 use lib.ListN.{length, getD, take, drop, length-append, length-drop}
 use lib.Seq.{length-take-le}
-use Rattle.words.specs.Words.{low, wordsOf, Holds}
+use Rattle.words.specs.Words.{wordsOf, Holds}
 use Rattle.words.proofs.WordLaws.{Below, words-below}
 use Rattle.blocks.specs.declared.Cursor.{Cursor}
 use Rattle.blocks.specs.declared.Stop.the-variants.{End, Refused}
@@ -16,33 +16,34 @@ use Rattle.blocks.specs.Walk.{stepAt, partsOf, Part, rawOf, endMarker}
 use Rattle.blocks.proofs.Steps.{walkFrom, walk-over, step-block, end-bounds}
 use Rattle.rules.specs.declared.Row.{Row}
 use Rattle.rules.specs.Slim.{Slim, slimBy, wordsIn}
-use Rattle.tables.specs.Table.{rowOf}
-use Rattle.tables.specs.Setup.{slimOf}
+use Rattle.tables.specs.declared.setup.Setup.{Setup}
+use Rattle.tables.specs.Setup.{rowFor, slimOf, learnt}
+use Rattle.tables.proofs.TableLaws.{row-listed, learnt-raw}
 use Rattle.cuts.specs.Cut.{Cuts}
 use Rattle.cuts.proofs.CutLaws.{slim-raw, slim-short}
-use Rattle.accept.specs.Slims.{slimPart, slims, slimsIn, partAt}
+use Rattle.accept.specs.Slims.{slimPart, knownFrom, slims, slimsIn, partAt}
 use Rattle.accept.specs.Judge.{judge, surveyed}
 use Rattle.accept.specs.declared.judge.Judged.the-variants.{Passed}
 use Rattle.accept.proofs.FoundWords.{accepted-few}
 use Rattle.accept.specs.declared.judge.State.{State}
-use Rattle.accept.proofs.Onward.{refused, no-fuel, passes, slims-over, slims-block, onward}
+use Rattle.accept.proofs.Onward.{refused, no-fuel, Passes, passes, known-through, slims-over, slims-block, onward}
 use Rattle.slims.proofs.Cuttable.{inside}
 use Rattle.slims.specs.Copy.{slimWords}
 use Rattle.slims.specs.Asked.{partWords, Accepted, Within}
 
 -- ---- its words in the slim copy
 
-module _ (p : Part) where
-  pub part-unlisted : rowOf (low (getD (p .words) 0 0)) .listed ≡ false → partWords p ≡ []
+module _ (s : Setup) (p : Part) where
+  pub part-unlisted : rowFor s (getD (p .words) 0 0) .listed ≡ false → partWords s p ≡ []
   unfolding partWords slimPart flatMap
-  part-unlisted l = rw l
+  part-unlisted l = rw (sym (row-listed s (getD (p .words) 0 0)) ∙ l)
 
-  pub part-listed : rowOf (low (getD (p .words) 0 0)) .listed ≡ true
-      → partWords p ≡ wordsIn (slimBy (rowOf (low (getD (p .words) 0 0))) (p .words) []) ++ p .raw
+  pub part-listed : rowFor s (getD (p .words) 0 0) .listed ≡ true
+      → partWords s p ≡ wordsIn (slimBy (rowFor s (getD (p .words) 0 0)) (p .words) []) ++ p .raw
   unfolding partWords slimPart flatMap slimOf
   part-listed l =
-      ap (λ (t : Bool). flatMap wordsIn (cond t (slimOf (p .words) (p .raw) ∷ []) [])) l ∙ append-nil _
-      ∙ slim-raw (rowOf (low (getD (p .words) 0 0))) (p .words) (p .raw)
+      ap (λ (t : Bool). flatMap wordsIn (cond t (slimOf s (p .words) (p .raw) ∷ []) [])) (sym (row-listed s (getD (p .words) 0 0)) ∙ l) ∙ append-nil _
+      ∙ slim-raw (rowFor s (getD (p .words) 0 0)) (p .words) (p .raw)
 
 flat-append : (xs ys : List Slim) → flatMap wordsIn (xs ++ ys) ≡ flatMap wordsIn xs ++ flatMap wordsIn ys
 unfolding flatMap
@@ -50,9 +51,9 @@ flat-append [] ys = refl
 flat-append (x ∷ xs) ys = ap (λ (l : List ℕ). wordsIn x ++ l) (flat-append xs ys) ∙ sym (append-assoc (wordsIn x) (flatMap wordsIn xs) (flatMap wordsIn ys))
 
 -- what is left to write: the block's words, and then what is left behind it
-pub words-split : (p : Part) (more : List Slim) → slimWords (slimPart p ++ more) ≡ partWords p ++ slimWords more
+pub words-split : (s : Setup) (p : Part) (more : List Slim) → slimWords (slimPart s p ++ more) ≡ partWords s p ++ slimWords more
 unfolding slimWords partWords
-words-split p more = rw (flat-append (slimPart p) more, append-assoc)
+words-split s p more = rw (flat-append (slimPart s p) more, append-assoc)
 
 pub words-end : slimWords [] ≡ endMarker ∷ []
 unfolding slimWords flatMap
@@ -60,70 +61,89 @@ words-end = refl
 
 -- ---- a block as the code finds it: its words b, and the row of its id
 
-pub record Read (ws : List ℕ) (start len : ℕ) (b : List ℕ) (row : Row) : Type 0 where
+pub record Read (ws : List ℕ) (known : Setup) (start len : ℕ) (b : List ℕ) (row : Row) : Type 0 where
   pub words : b ≡ take len (drop start ws)
-  pub row-is : row ≡ rowOf (low (getD b 0 0))
+  pub row-is : row ≡ rowFor known (getD b 0 0)
 
-pub read-at : (ws : List ℕ) (start len : ℕ) {from part : List ℕ} {row : Row} → Holds (drop start ws) from → Holds (take len (wordsOf from)) part
-    → row ≡ rowOf (low (getD (wordsOf part) 0 0)) → Read ws start len (wordsOf part) row
-read-at ws start len f p r = record { words = p .words ∙ ap (take len) (f .words); row-is = r }
+pub read-at : (ws : List ℕ) (known : Setup) (start len : ℕ) {from part : List ℕ} {row : Row} → Holds (drop start ws) from → Holds (take len (wordsOf from)) part
+    → row ≡ rowFor known (getD (wordsOf part) 0 0) → Read ws known start len (wordsOf part) row
+read-at ws known start len f p r = record { words = p .words ∙ ap (take len) (f .words); row-is = r }
 
-module _ {ws : List ℕ} {start len : ℕ} {b : List ℕ} {row : Row} (t : Read ws start len b row) where
-  own-row : row ≡ rowOf (low (getD (take len (drop start ws)) 0 0))
-  own-row = t .row-is ∙ ap (λ (l : List ℕ). rowOf (low (getD l 0 0))) (t .words)
+module _ {ws : List ℕ} {known : Setup} {start len : ℕ} {b : List ℕ} {row : Row} (t : Read ws known start len b row) where
+  own-row : row ≡ rowFor known (getD (take len (drop start ws)) 0 0)
+  own-row = t .row-is ∙ ap (λ (l : List ℕ). rowFor known (getD l 0 0)) (t .words)
 
-  pub read-unlisted : row .listed ≡ false → partWords (partAt ws start len) ≡ []
+  pub read-unlisted : row .listed ≡ false → partWords known (partAt ws start len) ≡ []
   unfolding partAt
-  read-unlisted l = part-unlisted (partAt ws start len) (sym (ap (λ (r : Row). r .listed) own-row) ∙ l)
+  read-unlisted l = part-unlisted known (partAt ws start len) (sym (ap (λ (r : Row). r .listed) own-row) ∙ l)
 
-  pub read-listed : row .listed ≡ true → partWords (partAt ws start len) ≡ wordsIn (slimBy row b []) ++ take (rawOf b) (drop (start + len) ws)
+  pub read-listed : row .listed ≡ true → partWords known (partAt ws start len) ≡ wordsIn (slimBy row b []) ++ take (rawOf b) (drop (start + len) ws)
   unfolding partAt
   read-listed l =
-      part-listed (partAt ws start len) (sym (ap (λ (r : Row). r .listed) own-row) ∙ l)
+      part-listed known (partAt ws start len) (sym (ap (λ (r : Row). r .listed) own-row) ∙ l)
       ∙ sym (ap (λ (r : Row). wordsIn (slimBy r b []) ++ take (rawOf b) (drop (start + len) ws)) own-row
-      ∙ ap (λ (l : List ℕ). wordsIn (slimBy (rowOf (low (getD (take len (drop start ws)) 0 0))) l []) ++ take (rawOf l) (drop (start + len) ws)) (t .words))
+      ∙ ap (λ (l : List ℕ). wordsIn (slimBy (rowFor known (getD (take len (drop start ws)) 0 0)) l []) ++ take (rawOf l) (drop (start + len) ws)) (t .words))
 
-  module _ (i : Within ws start len) where
+  -- what is known behind it
+  pub read-known : {k : Setup} → row .listed ≡ true → k ≡ learnt known (slimOf known b []) → k ≡ knownFrom known (partAt ws start len)
+  unfolding knownFrom partAt
+  read-known l e =
+      rw (sym (row-listed known _) ∙ sym (ap (λ (r : Row). r .listed) own-row) ∙ l)
+      (e ∙ learnt-raw known b _ ∙ ap (λ (x : List ℕ). learnt known (slimOf known x (take (rawOf (take len (drop start ws))) (drop (start + len) ws)))) (t .words))
+
+  pub read-passed : row .listed ≡ false → known ≡ knownFrom known (partAt ws start len)
+  unfolding knownFrom partAt
+  read-passed l = rw (sym (row-listed known _) ∙ sym (ap (λ (r : Row). r .listed) own-row) ∙ l)
+
+  module _ (i : Within ws known start len) where
     pub read-cuts : row .listed ≡ true → Cuts row b
     read-cuts l =
         subst⁻¹ (λ (r : Row). Cuts r b) own-row
-        (subst⁻¹ (Cuts (rowOf (low (getD (take len (drop start ws)) 0 0)))) (t .words) (i .good (sym (ap (λ (r : Row). r .listed) own-row) ∙ l)))
+        (subst⁻¹ (Cuts (rowFor known (getD (take len (drop start ws)) 0 0))) (t .words) (i .good (sym (ap (λ (r : Row). r .listed) own-row) ∙ l)))
 
     -- how many words these are
-    pub read-length : row .listed ≡ true → length (partWords (partAt ws start len)) ≡ length (wordsIn (slimBy row b [])) + rawOf b
+    pub read-length : row .listed ≡ true → length (partWords known (partAt ws start len)) ≡ length (wordsIn (slimBy row b [])) + rawOf b
     read-length l =
         let raw : length (take (rawOf b) (drop (start + len) ws)) ≡ rawOf b = length-take-le _ _ (omega (arith, i .fits, ap rawOf (t .words), length-drop (start + len) ws)) in
         ap length (read-listed l) ∙ length-append (wordsIn (slimBy row b [])) _ ∙ omega (arith, raw)
 
-    pub read-short : length (partWords (partAt ws start len)) ≤ len + rawOf b
+    pub read-short : length (partWords known (partAt ws start len)) ≤ len + rawOf b
     read-short = go (row .listed) refl
       where
-        go : (x : Bool) → row .listed ≡ x → length (partWords (partAt ws start len)) ≤ len + rawOf b
+        go : (x : Bool) → row .listed ≡ x → length (partWords known (partAt ws start len)) ≤ len + rawOf b
         go false l = omega (arith, ap length (read-unlisted l))
         go true l =
             omega (arith, read-length l, slim-short (read-cuts l), ap length (t .words), length-take-le len (drop start ws) (omega (arith, i .fits, length-drop start ws)))
 
 -- ---- a slim copy is no longer than its file
 
+through-known : {ws : List ℕ} {m : ℕ} {s s′ : State} {start len : ℕ} {next : Cursor} → (x : Passes ws m s s′ start len next) → x .state .setup ≡ knownFrom (s .setup) (partAt ws start len)
+unfolding partAt
+through-known {ws} {s = s} {start = start} {len} x = known-through s (x .state) start (partAt ws start len) (x .through)
+
 walk-short : (ws : List ℕ) → Below 65536 ws → length ws ≤ 32768 → (m : ℕ) (c : Cursor) (s s′ : State) → judge s (walkFrom m ws c) ≡ Passed s′
-    → length (slimWords (slims (partsOf (walkFrom m ws c)))) + c .at ≤ length ws
+    → length (slimWords (slims (s .setup) (partsOf (walkFrom m ws c)))) + c .at ≤ length ws
 walk-short ws below few zero c s s′ e = absurd (no-fuel ws s s′ c e)
 walk-short ws below few (suc m) c s s′ e = go (stepAt ws c) refl (walk-short ws below few m)
   where
-    go : (x : Step) → stepAt ws c ≡ x → ((c : Cursor) (s s′ : State) → judge s (walkFrom m ws c) ≡ Passed s′ → length (slimWords (slims (partsOf (walkFrom m ws c)))) + c .at ≤ length ws)
-        → length (slimWords (slims (partsOf (walkFrom (suc m) ws c)))) + c .at ≤ length ws
+    go : (x : Step) → stepAt ws c ≡ x → ((c : Cursor) (s s′ : State) → judge s (walkFrom m ws c) ≡ Passed s′ → length (slimWords (slims (s .setup) (partsOf (walkFrom m ws c)))) + c .at ≤ length ws)
+        → length (slimWords (slims (s .setup) (partsOf (walkFrom (suc m) ws c)))) + c .at ≤ length ws
     go (Over (Refused num p)) q ih = absurd (refused s s′ num p (sym (ap (judge s) (walk-over m ws c (Refused num p) q)) ∙ e))
     go (Over (End p left)) q ih =
         let b = end-bounds ws c p left q in
-        omega (arith, b .0, b .1, ap length (ap slimWords (slims-over m ws c (End p left) q) ∙ words-end))
+        omega (arith, b .0, b .1, ap length (ap slimWords (slims-over m ws c (s .setup) (End p left) q) ∙ words-end))
     go (Block id nn start len next) q ih =
         let x = passes ws m c s s′ id nn start len next q e in
         let b = step-block ws c id nn start len next q in
-        let words = ap slimWords (slims-block m ws c id nn start len next q) ∙ words-split (partAt ws start len) (slims (partsOf (walkFrom m ws next))) in
+        let part = partAt ws start len in
+        let later = slims (x .state .setup) (partsOf (walkFrom m ws next)) in
+        let known : x .state .setup ≡ knownFrom (s .setup) part = through-known x in
+        let words : slimWords (slims (s .setup) (partsOf (walkFrom (suc m) ws c))) ≡ partWords (s .setup) part ++ slimWords later =
+        rw known (ap slimWords (slims-block m ws c (s .setup) id nn start len next q) ∙ words-split (s .setup) part (slims (knownFrom (s .setup) part) (partsOf (walkFrom m ws next)))) in
         omega (
           arith,
           ap length words,
-          length-append (partWords (partAt ws start len)) (slimWords (slims (partsOf (walkFrom m ws next)))),
+          length-append (partWords (s .setup) part) (slimWords later),
           read-short (record { words = refl; row-is = refl }) (inside below few x),
           b .here,
           b .on,
@@ -133,7 +153,7 @@ walk-short ws below few (suc m) c s s′ e = go (stepAt ws c) refl (walk-short w
 pub no-longer : (file : List ℕ) (s : State) → surveyed file ≡ Passed s → Below 256 file → length (slimWords (slimsIn file)) ≤ length (wordsOf file)
 no-longer file s e below =
     let o = onward file s e in
-    omega (arith, walk-short (wordsOf file) (words-below file below) (accepted-few file s e) (o .fuel) (record { at = 0; last = 0 }) (o .state) (o .last) (o .goes), ap (λ (xs : List Slim). length (slimWords xs)) (o .left))
+    omega (arith, walk-short (wordsOf file) (words-below file below) (accepted-few file s e) (o .fuel) (record { at = 0; last = 0 }) (o .state) (o .last) (o .goes), ap (λ (xs : List Slim). length (slimWords xs)) (ap (λ (k : Setup). slims k (partsOf (walkFrom (o .fuel) (wordsOf file) (record { at = 0; last = 0 })))) (o .known-is) ∙ o .left))
 
 -- so it has at most 32,768 words
 pub copy-few : (file : List ℕ) → Below 256 file → Accepted file → length (slimWords (slimsIn file)) ≤ 32768

@@ -1,9 +1,10 @@
 -- Every row of the table is sound, and a listed block of an accepted file can be cut by its row. Assumes nothing.
-use mathlib.Core.Bool.{true, false, false≢true}
+use mathlib.Core.Bool.{true, false, false≢true, true≢false}
 use mathlib.Core.List.{List}
 use mathlib.Core.Logic.{_⊎_, inl, inr}
 use mathlib.Core.Path.{_≡_, refl, sym, ap, _∙_}
 use Prim.Native.Nat.{ℕ, _+_, _-_, _*_, _≤_, _<_}
+use native.Mathlib.Nat.{add-zero}
 use native.Mathlib.Omega.{arith}
 use lib.Dec.{lit≤}
 use lib.ListN.{length, getD, take, drop, length-drop}
@@ -15,13 +16,13 @@ use Rattle.blocks.specs.Walk.{cut, frontOf, longForm, rawOf}
 use Rattle.blocks.proofs.Fronts.{front-cuts}
 use Rattle.blocks.proofs.Segments.{cut-whole}
 use Rattle.rules.specs.declared.Row.{Row}
-use Rattle.rules.specs.Block.{readable}
-use Rattle.rules.specs.Slim.{Slim}
-use Rattle.rules.proofs.BlockLaws.{Kept, kept-says, kept-least, kept-short}
+use Rattle.rules.specs.declared.More.the-variants.{Nothing}
+use Rattle.rules.specs.Block.{moreOf, leastOf, readable}
+use Rattle.rules.proofs.BlockLaws.{Kept, kept-says, kept-full, kept-short}
 use Rattle.tables.specs.declared.setup.Setup.{Setup}
-use Rattle.tables.specs.Table.{rowOf}
+use Rattle.tables.specs.Table.{row0B, rowOf, kindOf}
 use Rattle.tables.specs.Setup.{rowFor}
-use Rattle.tables.proofs.TableLaws.{each-row, row-exact, row-text, row-subs, row-least}
+use Rattle.tables.proofs.TableLaws.{each-row, each-row-for, row-listed, row-exact}
 use Rattle.cuts.specs.Cut.{Sound, Cuts}
 use Rattle.accept.specs.declared.judge.State.{State}
 use Rattle.accept.proofs.Seen.{Through, unlisted, listed}
@@ -31,7 +32,7 @@ use Rattle.slims.specs.Asked.{Within}
 -- ---- every row of the table is sound
 
 -- a row without sub-blocks
-lone : (r : Row) → r .subs .count ≡ 0 → r .subs .least ≡ 0 → 1 ≤ r .least → r .least < 256 → Sound r
+lone : (r : Row) → r .subs .count ≡ 0 → r .subs .least ≡ 0 → 1 ≤ r .least → (r .exact ≡ false → r .least < 256) → Sound r
 lone r n z some one =
     record {
       one-byte = one;
@@ -42,13 +43,15 @@ lone r n z some one =
       sum = λ e f h. absurd (omega (arith, n, h));
       whole = λ e. n;
       alone = λ e. n;
+      fixed = λ h. absurd (omega (arith, n, h));
     }
 
 -- a row with three sub-blocks
-three : (r : Row) → r .exact ≡ false → r .text ≡ false → r .subs .count ≡ 3 → 1 ≤ r .subs .least → r .least ≡ 2 + r .subs .count * r .subs .least → r .least < 256 → Sound r
-three r x t n some sum one =
+three : (r : Row) → r .exact ≡ false → r .text ≡ false → r .subs .count ≡ 3 → 1 ≤ r .subs .least → r .least ≡ 2 + r .subs .count * r .subs .least → r .least < 256 → r .more ≡ Nothing → Sound r
+unfolding leastOf moreOf
+three r x t n some sum one fixed =
     record {
-      one-byte = one;
+      one-byte = λ e. one;
       sub-one-byte = omega (arith, sum, ap (λ (k : ℕ). k * r .subs .least) n);
       few = omega (arith, n);
       some = λ e. omega (arith, sum);
@@ -56,27 +59,40 @@ three r x t n some sum one =
       sum = λ e f h. sum;
       whole = λ e. absurd (false≢true (sym x ∙ e));
       alone = λ e. absurd (false≢true (sym t ∙ e));
+      fixed = λ h b. rw fixed (add-zero _);
     }
 
-row-sound : (id : ℕ) → rowOf id .listed ≡ true → Sound (rowOf id)
+abbrev Cuttable : Row → Type 0
+Cuttable r = r .listed ≡ true → Sound r
+
+row-sound : (s : Setup) (w : ℕ) → rowFor s w .listed ≡ true → Sound (rowFor s w)
 row-sound =
-    each-row (λ r. r .listed ≡ true → Sound r)
-    (λ l. lone _ refl refl (lit≤ tt) (lit≤ tt)) (λ l. lone _ refl refl (lit≤ tt) (lit≤ tt)) (λ l. lone _ refl refl (lit≤ tt) (lit≤ tt))
-    (λ l. lone _ refl refl (lit≤ tt) (lit≤ tt)) (λ l. three _ refl refl refl (lit≤ tt) refl (lit≤ tt)) (λ l. three _ refl refl refl (lit≤ tt) refl (lit≤ tt))
-    (λ l. lone _ refl refl (lit≤ tt) (lit≤ tt)) (λ l. lone _ refl refl (lit≤ tt) (lit≤ tt)) (λ l. three _ refl refl refl (lit≤ tt) refl (lit≤ tt))
-    (λ l. lone _ refl refl (lit≤ tt) (lit≤ tt)) (λ l. lone _ refl refl (lit≤ tt) (lit≤ tt))
-    (λ l. absurd (false≢true l))
+    each-row-for Cuttable
+    (each-row Cuttable
+    (plain _ refl refl (lit≤ tt) (lit≤ tt)) (plain _ refl refl (lit≤ tt) (lit≤ tt)) (plain _ refl refl (lit≤ tt) (lit≤ tt))
+    (plain _ refl refl (lit≤ tt) (lit≤ tt)) (plain _ refl refl (lit≤ tt) (lit≤ tt))
+    (λ l. three _ refl refl refl (lit≤ tt) refl (lit≤ tt) refl) (λ l. three _ refl refl refl (lit≤ tt) refl (lit≤ tt) refl)
+    (λ l. three _ refl refl refl (lit≤ tt) refl (lit≤ tt) refl) (λ l. three _ refl refl refl (lit≤ tt) refl (lit≤ tt) refl)
+    (plain _ refl refl (lit≤ tt) (lit≤ tt)) (plain _ refl refl (lit≤ tt) (lit≤ tt)) (plain _ refl refl (lit≤ tt) (lit≤ tt))
+    (λ l. three _ refl refl refl (lit≤ tt) refl (lit≤ tt) refl)
+    (plain _ refl refl (lit≤ tt) (lit≤ tt)) (plain _ refl refl (lit≤ tt) (lit≤ tt))
+    (λ l. absurd (false≢true l)))
+    (λ n l. lone (row0B n) refl refl (omega arith) (λ e. absurd (true≢false e)))
+    (λ bands n. plain _ refl refl (lit≤ tt) (lit≤ tt))
+  where
+    plain : (r : Row) → r .subs .count ≡ 0 → r .subs .least ≡ 0 → 1 ≤ r .least → r .least < 256 → Cuttable r
+    plain r n z some one l = lone r n z some (λ e. one)
 
 -- ---- a listed block of an accepted file can be cut
 
 -- a listed block that is no histogram counts itself in its first word
-counts-itself : (w : ℕ) → rowOf (low w) .listed ≡ true → rowOf (low w) .exact ≡ false → (high w ≡ 0 → ⊥) → longForm w ≡ false
+counts-itself : (w : ℕ) → kindOf (low w) .listed ≡ true → kindOf (low w) .exact ≡ false → (high w ≡ 0 → ⊥) → longForm w ≡ false
 unfolding rowOf longForm
 counts-itself w l x h =
     simp (
       ne-eqb (high w) 0 h,
-      ne-eqb (low w) 0x0B (λ e. false≢true (sym x ∙ ap (λ (i : ℕ). rowOf i .exact) e)),
-      ne-eqb (low w) 0x14 (λ e. false≢true (sym (ap (λ (i : ℕ). rowOf i .listed) e) ∙ l)),
+      ne-eqb (low w) 0x0B (λ e. false≢true (sym x ∙ ap (λ (i : ℕ). kindOf i .exact) e)),
+      ne-eqb (low w) 0x14 (λ e. false≢true (sym (ap (λ (i : ℕ). kindOf i .listed) e) ∙ l)),
     )
 
 module _ (b : List ℕ) (below : Below 65536 b) (whole : frontOf b ≡ cut (length b)) where
@@ -87,21 +103,21 @@ module _ (b : List ℕ) (below : Below 65536 b) (whole : frontOf b ≡ cut (leng
       go (inl (t, two, z)) = absurd (false≢true (sym f ∙ t))
       go (inr (t, z)) = omega (arith, z, below 0)
 
-  kept-cuts : (s : Setup) → rowOf (low (getD b 0 0)) .listed ≡ true → Kept (rowFor s (getD b 0 0)) b → Cuts (rowOf (low (getD b 0 0))) b
+  kept-cuts : (s : Setup) → rowFor s (getD b 0 0) .listed ≡ true → Kept (rowFor s (getD b 0 0)) b → Cuts (rowFor s (getD b 0 0)) b
   unfolding readable
   kept-cuts s l k =
       let w = getD b 0 0 in
       record {
-        sound = row-sound (low w) l;
-        long = λ x. omega (arith, kept-least (rowFor s w) b k, row-least s w x);
-        short = λ x. cut-short (counts-itself w l x (kept-short k (row-exact s w ∙ x)));
-        null = λ t. rw (row-text s w ∙ t) at (k .null);
-        subs = rw (row-subs s w) at (k .subs);
+        sound = row-sound s w l;
+        long = λ x. kept-full (rowFor s w) b k;
+        short = λ x. cut-short (counts-itself w (sym (row-listed s w) ∙ l) (sym (row-exact s w) ∙ x) (kept-short k x));
+        null = λ t. rw t at (k .null);
+        subs = k .subs;
       }
 
 -- ---- a block that Slim goes over
 
-pub inside : {ws : List ℕ} {m : ℕ} {s s′ : State} {start len : ℕ} {next : Cursor} → Below 65536 ws → length ws ≤ 32768 → Passes ws m s s′ start len next → Within ws start len
+pub inside : {ws : List ℕ} {m : ℕ} {s s′ : State} {start len : ℕ} {next : Cursor} → Below 65536 ws → length ws ≤ 32768 → Passes ws m s s′ start len next → Within ws (s .setup) start len
 inside {ws} {s = s} {start = start} {len} below few o =
     record {
       short = few;
@@ -112,8 +128,8 @@ inside {ws} {s = s} {start = start} {len} below few o =
     fits : rawOf (take len (drop start ws)) ≤ length (drop len (drop start ws))
     fits = omega (arith, o .fits, length-drop len (drop start ws), length-drop start ws)
 
-    by : Through s start (take len (drop start ws)) (o .state) → rowOf (low (getD (take len (drop start ws)) 0 0)) .listed ≡ true
-        → Cuts (rowOf (low (getD (take len (drop start ws)) 0 0))) (take len (drop start ws))
-    by (unlisted l e) y = absurd (false≢true (sym l ∙ y))
+    by : Through s start (take len (drop start ws)) (o .state) → rowFor (s .setup) (getD (take len (drop start ws)) 0 0) .listed ≡ true
+        → Cuts (rowFor (s .setup) (getD (take len (drop start ws)) 0 0)) (take len (drop start ws))
+    by (unlisted l e) y = absurd (false≢true (sym l ∙ sym (row-listed (s .setup) _) ∙ y))
     by (listed l d g e) y =
         kept-cuts (take len (drop start ws)) (below-take len (drop start ws) (omega arith) (below-drop start ws below)) (cut-whole (drop start ws) len (o .front) fits .counted) (s .setup) y (kept-says _ _ g)

@@ -1,6 +1,6 @@
 -- The loops over the blocks of an accepted file: what a turn goes over, counts and writes. Assumes nothing.
 use mathlib.Core.List.{List, [], _∷_, _++_}
-use mathlib.Core.Path.{_≡_, ap, _∙_}
+use mathlib.Core.Path.{_≡_, ap, subst, _∙_}
 use Prim.Native.Nat.{ℕ, _+_, _-_, _<_}
 use native.Mathlib.Omega.{arith}
 use lib.ListN.{length, length-append}
@@ -16,7 +16,8 @@ use borrow.Rule.Slice.PartMut.{midOf, putMid}
 use Rattle.cuts.specs.Cut.{WroteWords, HasRoom}
 use Rattle.cuts.proofs.WordWriting as WordWriting
 use Rattle.cuts.proofs.WordWriting.{Begun, room, finished}
-use Rattle.accept.specs.Slims.{partAt}
+use Rattle.tables.specs.declared.setup.Setup.{Setup}
+use Rattle.accept.specs.Slims.{knownFrom, partAt}
 use Rattle.accept.proofs.FoundWords.{accepted-few}
 use Rattle.accept.proofs.Onward.{passes, Onward, onward-over, onward-block}
 use Rattle.slims.proofs.Cuttable.{inside}
@@ -26,43 +27,43 @@ use Rattle.slims.specs.Asked.{partWords, Accepted, Within}
 
 -- ---- a turn of a loop over the blocks of an accepted file, with the slim blocks xs left
 
-pub record Turn (ws : List ℕ) (c : Cursor) (xs : List Slim) (start len : ℕ) (next : Cursor) : Type 0 where
-  pub within : Within ws start len
+pub record Turn (ws : List ℕ) (c : Cursor) (known : Setup) (xs : List Slim) (start len : ℕ) (next : Cursor) : Type 0 where
+  pub within : Within ws known start len
   pub more : List Slim
-  pub words : slimWords xs ≡ partWords (partAt ws start len) ++ slimWords more
-  pub sum : length (slimWords xs) ≡ length (partWords (partAt ws start len)) + length (slimWords more)
-  pub on : Onward ws next more
+  pub words : slimWords xs ≡ partWords known (partAt ws start len) ++ slimWords more
+  pub sum : length (slimWords xs) ≡ length (partWords known (partAt ws start len)) + length (slimWords more)
+  pub on : Onward ws next (knownFrom known (partAt ws start len)) more
   pub further : (c .at < next .at) × (c .at < length ws)
 
-pub turn : {file : List ℕ} {c : Cursor} {xs : List Slim} → Below 256 file → Accepted file → Onward (wordsOf file) c xs
-    → (id nn start len : ℕ) (next : Cursor) → stepAt (wordsOf file) c ≡ Block id nn start len next → Turn (wordsOf file) c xs start len next
-turn {file} {c} below a o id nn start len next q =
+pub turn : {file : List ℕ} {c : Cursor} {known : Setup} {xs : List Slim} → Below 256 file → Accepted file → Onward (wordsOf file) c known xs
+    → (id nn start len : ℕ) (next : Cursor) → stepAt (wordsOf file) c ≡ Block id nn start len next → Turn (wordsOf file) c known xs start len next
+turn {file} {c} {known} below a o id nn start len next q =
     let b = onward-block o id nn start len next q in
     let s = step-block (wordsOf file) c id nn start len next q in
-    let words = ap slimWords (b .split) ∙ words-split (partAt (wordsOf file) start len) (b .more) in
+    let words = ap slimWords (b .split) ∙ words-split known (partAt (wordsOf file) start len) (b .more) in
     record {
-      within = inside (words-below file below) (accepted-few file (a .state) (a .passed)) (b .passes);
+      within = subst (λ (k : Setup). Within (wordsOf file) k start len) (b .before-is) (inside (words-below file below) (accepted-few file (a .state) (a .passed)) (b .passes));
       more = b .more;
       words = words;
-      sum = ap length words ∙ length-append (partWords (partAt (wordsOf file) start len)) (slimWords (b .more));
+      sum = ap length words ∙ length-append (partWords known (partAt (wordsOf file) start len)) (slimWords (b .more));
       on = b .on;
       further = (omega (arith, s .here, s .some, s .on), omega (arith, s .here, s .some, s .fits));
     }
 
 -- the last turn
-pub turn-end : {ws : List ℕ} {c : Cursor} {xs : List Slim} → Onward ws c xs → (stop : Stop) → stepAt ws c ≡ Over stop → slimWords xs ≡ endMarker ∷ []
+pub turn-end : {ws : List ℕ} {c : Cursor} {known : Setup} {xs : List Slim} → Onward ws c known xs → (stop : Stop) → stepAt ws c ≡ Over stop → slimWords xs ≡ endMarker ∷ []
 turn-end o stop q = ap slimWords (onward-over o stop q) ∙ words-end
 
 -- ---- what a turn writes
 
 module _ {all d e : List ℕ} {n : ℕ} (g : HasRoom all d) where
-  module _ {ws : List ℕ} {c : Cursor} {xs : List Slim} {start len : ℕ} {next : Cursor} (t : Turn ws c xs start len next) (s : Begun all (slimWords xs) d e n) where
-    pub part-room : HasRoom (partWords (partAt ws start len)) (midOf n (length e - n) e)
-    part-room = room s g (partWords (partAt ws start len)) (slimWords (t .more)) (t .words)
+  module _ {ws : List ℕ} {c : Cursor} {known : Setup} {xs : List Slim} {start len : ℕ} {next : Cursor} (t : Turn ws c known xs start len next) (s : Begun all (slimWords xs) d e n) where
+    pub part-room : HasRoom (partWords known (partAt ws start len)) (midOf n (length e - n) e)
+    part-room = room s g (partWords known (partAt ws start len)) (slimWords (t .more)) (t .words)
 
-    pub part-next : {f : List ℕ} {m : ℕ} → WroteWords (partWords (partAt ws start len)) (midOf n (length e - n) e) f m
+    pub part-next : {f : List ℕ} {m : ℕ} → WroteWords (partWords known (partAt ws start len)) (midOf n (length e - n) e) f m
         → Begun all (slimWords (t .more)) d (putMid n (length e - n) e f) (n + m)
-    part-next = WordWriting.next s g (partWords (partAt ws start len)) (slimWords (t .more)) (t .words)
+    part-next = WordWriting.next s g (partWords known (partAt ws start len)) (slimWords (t .more)) (t .words)
 
   module _ (xs : List Slim) (end : slimWords xs ≡ endMarker ∷ []) (s : Begun all (slimWords xs) d e n) where
     pub end-room : HasRoom (endMarker ∷ []) (midOf n (length e - n) e)

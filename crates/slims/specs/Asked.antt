@@ -4,10 +4,10 @@ use mathlib.Core.List.{List, flatMap}
 use mathlib.Core.Path.{_≡_}
 use Prim.Native.Nat.{ℕ, _+_, _≤_}
 use lib.ListN.{length, getD, take, drop}
-use Rattle.words.specs.Words.{low}
 use Rattle.blocks.specs.Walk.{Part, rawOf}
 use Rattle.rules.specs.Slim.{Slim, wordsIn}
-use Rattle.tables.specs.Table.{rowOf}
+use Rattle.tables.specs.declared.setup.Setup.{Setup}
+use Rattle.tables.specs.Setup.{rowFor}
 use Rattle.cuts.specs.Cut.{Cuts}
 use Rattle.accept.specs.declared.judge.State.{State}
 use Rattle.accept.specs.declared.judge.Judged.the-variants.{Passed}
@@ -20,12 +20,12 @@ pub record Accepted (file : List ℕ) : Type 0 where
   pub passed : surveyed file ≡ Passed state
 
 -- the words of a block and its raw contents in the slim copy; none of a block that is not listed
-unfoldable pub partWords : Part → List ℕ
-partWords p = flatMap wordsIn (slimPart p)
+unfoldable pub partWords : Setup → Part → List ℕ
+partWords s p = flatMap wordsIn (slimPart s p)
 
 -- a block within a file of 32,768 words at most, and good by its row where it is listed
-pub record Within (ws : List ℕ) (start len : ℕ) : Type 0 where
+pub record Within (ws : List ℕ) (known : Setup) (start len : ℕ) : Type 0 where
   pub short : length ws ≤ 32768
   pub fits : start + (len + rawOf (take len (drop start ws))) ≤ length ws
-  pub good : rowOf (low (getD (take len (drop start ws)) 0 0)) .listed ≡ true
-      → Cuts (rowOf (low (getD (take len (drop start ws)) 0 0))) (take len (drop start ws))
+  pub good : rowFor known (getD (take len (drop start ws)) 0 0) .listed ≡ true
+      → Cuts (rowFor known (getD (take len (drop start ws)) 0 0)) (take len (drop start ws))

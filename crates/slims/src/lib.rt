@@ -9,16 +9,16 @@ use cuts::put_word;
 use cuts::put_words;
 use cuts::slim_words;
 use rules::Row;
-use tables::table::row_of;
+use tables::setup::Setup;
 use words::front;
 use words::rest;
 use words::word;
 ghost use mathlib.Core.Path.{_≡_};
 ghost use lib.ListN.{length, getD};
-ghost use Rattle.words.specs.Words.{low, wordsOf};
-ghost use Rattle.tables.specs.Table.{rowOf};
+ghost use Rattle.words.specs.Words.{wordsOf};
+ghost use Rattle.tables.specs.Setup.{rowFor};
 ghost use Rattle.cuts.specs.Cut.{WroteWords, HasRoom};
-ghost use Rattle.accept.specs.Slims.{slimsIn, partAt};
+ghost use Rattle.accept.specs.Slims.{slimsIn, knownFrom, partAt};
 ghost use Rattle.slims.specs.Copy.{slimWords, slimCopy, roomFor, outputBy, Slimmed};
 ghost use Rattle.slims.specs.Asked.{Accepted, partWords, Within};
 
@@ -28,20 +28,32 @@ pub enum Reply {
     Refused { num: u8, at: usize },
 }
 
-// The row of a block by its own id.
-fn row_by(b: &[u8]) -> Row
-    ensures { λ r. ⌜ r ≡ rowOf (low (getD (wordsOf (now (b .entry))) 0 0)) ⌝ }
+// The row of a block, by what is known before it.
+fn row_by(known: Setup, b: &[u8]) -> Row
+    ensures { λ r. ⌜ r ≡ rowFor known (getD (wordsOf (now (b .entry))) 0 0) ⌝ }
 {
-    row_of(word(b, 0) % 256)
+    known.row_for(word(b, 0))
+}
+
+// What is known after the block of `len` words at word `start`.
+fn known_from(known: Setup, file: &[u8], start: usize, len: usize) -> Setup
+    ensures { λ r. ⌜ r ≡ knownFrom known (partAt (wordsOf (now (file .entry))) start len) ⌝ }
+{
+    let b = front(rest(file, start), len);
+    let row = row_by(known, b);
+    if !row.listed {
+        return known;
+    }
+    known.learnt(b)
 }
 
 // How many words of the slim copy are the block of `len` words at word `start` and its raw contents.
-fn part_words(file: &[u8], start: usize, len: usize) -> usize
-    requires { ⌜ Within (wordsOf (now file)) start len ⌝ }
-    ensures { λ r. ⌜ r ≡ length (partWords (partAt (wordsOf (now (file .entry))) start len)) ⌝ }
+fn part_words(known: Setup, file: &[u8], start: usize, len: usize) -> usize
+    requires { ⌜ Within (wordsOf (now file)) known start len ⌝ }
+    ensures { λ r. ⌜ r ≡ length (partWords known (partAt (wordsOf (now (file .entry))) start len)) ⌝ }
 {
     let b = front(rest(file, start), len);
-    let row = row_by(b);
+    let row = row_by(known, b);
     if !row.listed {
         return 0;
     }
@@ -49,12 +61,12 @@ fn part_words(file: &[u8], start: usize, len: usize) -> usize
 }
 
 // Writes these words.
-fn put_part(out: &mut [u8], file: &[u8], start: usize, len: usize) -> usize
-    requires { ⌜ Within (wordsOf (now file)) start len × HasRoom (partWords (partAt (wordsOf (now file)) start len)) (now out) ⌝ }
-    ensures { λ r. ⌜ WroteWords (partWords (partAt (wordsOf (now (file .entry))) start len)) (now (out .entry)) (now (out .exit)) r ⌝ }
+fn put_part(out: &mut [u8], known: Setup, file: &[u8], start: usize, len: usize) -> usize
+    requires { ⌜ Within (wordsOf (now file)) known start len × HasRoom (partWords known (partAt (wordsOf (now file)) start len)) (now out) ⌝ }
+    ensures { λ r. ⌜ WroteWords (partWords known (partAt (wordsOf (now (file .entry))) start len)) (now (out .entry)) (now (out .exit)) r ⌝ }
 {
     let b = front(rest(file, start), len);
-    let row = row_by(b);
+    let row = row_by(known, b);
     if !row.listed {
         return 0;
     }
@@ -68,6 +80,7 @@ fn copy_words(file: &[u8]) -> usize
     ensures { λ r. ⌜ r ≡ length (slimWords (slimsIn (now (file .entry)))) ⌝ }
 {
     let mut cursor = Cursor::start();
+    let mut known = Setup::none();
     let mut n = 0;
     loop {
         let step = cursor.step(file);
@@ -80,7 +93,8 @@ fn copy_words(file: &[u8]) -> usize
         else {
             return n + 1;
         };
-        n += part_words(file, start, length);
+        n += part_words(known, file, start, length);
+        known = known_from(known, file, start, length);
         cursor = next;
     }
 }
@@ -91,6 +105,7 @@ fn put_copy(out: &mut [u8], file: &[u8]) -> usize
     ensures { λ r. ⌜ WroteWords (slimWords (slimsIn (now (file .entry)))) (now (out .entry)) (now (out .exit)) r ⌝ }
 {
     let mut cursor = Cursor::start();
+    let mut known = Setup::none();
     let mut n = 0;
     loop {
         let step = cursor.step(file);
@@ -103,7 +118,8 @@ fn put_copy(out: &mut [u8], file: &[u8]) -> usize
         else {
             return n + put_word(&mut out[n..], 0xFFFF);
         };
-        n += put_part(&mut out[n..], file, start, length);
+        n += put_part(&mut out[n..], known, file, start, length);
+        known = known_from(known, file, start, length);
         cursor = next;
     }
 }

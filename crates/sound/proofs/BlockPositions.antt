@@ -14,9 +14,9 @@ use Rattle.rules.specs.declared.Subs.{Subs}
 use Rattle.rules.specs.declared.Row.{Row}
 use Rattle.rules.specs.declared.Tested.{Tested}
 use Rattle.rules.specs.declared.Tested.the-variants.{Good, Bad}
-use Rattle.rules.specs.Block.{then, behind, allows, obeyed, ruled, rulesIn, recorded, records, sized, readable, wholeRecords, buffered, kept}
+use Rattle.rules.specs.Block.{then, behind, allows, inForce, leastOf, filled, obeyed, ruled, rulesIn, recorded, records, sized, readable, wholeRecords, buffered, kept}
 use Rattle.rules.proofs.BlockLaws.{recorded-says, sized-least}
-use Rattle.sound.proofs.SoundRows.{asks, inside, frontWords, Sound}
+use Rattle.sound.proofs.SoundRows.{among, asks, inside, frontWords, Sound}
 
 -- a refusal, if it is one, is at word n at most
 pub data Upto (n : ℕ) : Tested → Type 0 where
@@ -39,14 +39,14 @@ behind-upto {n = n} o h (bad {o = p} l) = let there : o + p ≤ n = omega arith 
 
 -- rules that look inside the first m words
 ruled-upto : {m n : ℕ} (b : List ℕ) (rs : List Rule) → m ≤ n → inside m rs ≡ true → Upto n (ruled b rs)
-unfolding ruled obeyed inside asks
+unfolding ruled obeyed inside asks among
 ruled-upto b [] h e = good
 ruled-upto {m} {n} b (r ∷ rs) h e =
     let p = and-both (asks m r) (inside m rs) e in
-    let q = and-both (ltb 0 (r .off) && ltb (r .off) m) _ (p .0) in
+    let q = and-both (among m (r .off)) _ (p .0) in
     let off : r .off < m = ltb-true _ _ (and-both (ltb 0 (r .off)) _ (q .0) .1) in
     let here : r .off ≤ n = omega arith in
-    then-upto (obeyed b r) (ruled b rs) (cond-upto (ltb (getD b 3 0) (r .from)) (λ t. good) (λ t. cond-upto (allows r (getD b (r .off) 0)) (λ u. good) (λ u. bad here)))
+    then-upto (obeyed b r) (ruled b rs) (cond-upto (inForce r (getD b 3 0)) (λ t. cond-upto (allows b (r .kind) (getD b (r .off) 0)) (λ u. good) (λ u. bad here)) (λ t. good))
     (λ g. ruled-upto b rs h (p .1))
 
 -- sub-blocks, whose rules look inside their least words
@@ -74,7 +74,7 @@ module _ (s : Subs) (rules : inside (s .least) (rulesIn (s .rules)) ≡ true) wh
 
 -- a block, by the row that it is held to
 pub kept-upto : (r : Row) (b : List ℕ) → Sound r → r .listed ≡ true → Upto (length b) (kept r b)
-unfolding kept buffered frontWords
+unfolding kept filled buffered frontWords
 kept-upto r b s l =
     cond-upto (sized r b && readable (r .text) b)
     (λ t.
@@ -84,13 +84,15 @@ kept-upto r b s l =
     let subs : 2 + length (drop 2 b) ≤ length b = omega (arith, length-drop 2 b) in
     then-upto (ruled b (rulesIn (r .rules))) _ (ruled-upto b (rulesIn (r .rules)) fits (s .rules))
     (λ g.
+    then-upto (filled r b) _ (cond-upto (leb (leastOf r b) (length b)) (λ u. good) (λ u. bad (omega arith)))
+    (λ f.
     then-upto (buffered r b) _
     (cond-upto (r .logger)
     (λ u.
     let six : 6 ≤ length b = omega (arith, s .logger u) in
     cond-upto (wholeRecords (r .width) (longAt b 6)) (λ v. good) (λ v. bad six))
     (λ u. good))
-    (λ h. behind-upto 2 subs (records-upto (r .subs) (s .sub-rules) (r .subs .count) (drop 2 b)))))
+    (λ h. behind-upto 2 subs (records-upto (r .subs) (s .sub-rules) (r .subs .count) (drop 2 b))))))
     (λ t. bad (omega arith))
   where
     front : (t : Bool) → r .least ≤ length b → 2 ≤ length b → cond t (r .least) 2 ≤ length b

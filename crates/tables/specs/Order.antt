@@ -29,9 +29,13 @@ nothing = only 0x00
 unfoldable pub passedOver : Due → Due
 passedOver d = cond (eqb (d .one) 0x01) nothing d
 
--- "then 0E if the function is 2, 10 if it is 3, neither if it is 1, then optionally 09 .. Then the end marker"
+-- "function 4 has the block order of 1"; "then 0E if the function is 2, 10 if it is 3, neither if it is 1, then optionally 09 .. Then the end marker"
 unfoldable pub dueAfterResults : ℕ → Due
 dueAfterResults function = cond (eqb function 2) (only 0x0E) (cond (eqb function 3) (only 0x10) (either 0x09 endMarker))
+
+-- "then either 0F with its contents, or 07"; "a 953 file with 0F is 4"
+unfoldable pub dueAfterProfiles : ℕ → Due
+dueAfterProfiles model = cond (eqb model 953) (only 0x07) (either 0x0F 0x07)
 
 -- "01 (at word 0), 02, 03, 04, 05; then either 0F with its contents, or 07, .. then optionally 09 followed by three 0B with nn
 -- 01, 02, 04. Then the end marker"
@@ -41,7 +45,7 @@ dueAfter s key =
     (cond (eqb key 0x02) (only 0x03)
     (cond (eqb key 0x03) (only 0x04)
     (cond (eqb key 0x04) (only 0x05)
-    (cond (eqb key 0x05) (either 0x0F 0x07)
+    (cond (eqb key 0x05) (dueAfterProfiles (s .model))
     (cond (eqb key 0x07) (dueAfterResults (s .function))
     (cond (eqb key 0x0E) (either 0x09 endMarker)
     (cond (eqb key 0x10) (either 0x09 endMarker)

@@ -1,7 +1,7 @@
 // The order of the listed blocks: after each, what is due.
 use crate::setup::Setup;
 ghost use mathlib.Core.Path.{_≡_};
-ghost use Rattle.tables.specs.Order.{keyOf, either, only, isDue, passedOver, dueAfterResults, dueAfter};
+ghost use Rattle.tables.specs.Order.{keyOf, either, only, isDue, passedOver, dueAfterProfiles, dueAfterResults, dueAfter};
 
 // The blocks that may come next, by their keys: one or another; both are the same where only one is due.
 pub struct Due {
@@ -53,6 +53,16 @@ impl Due {
         }
     }
 
+    fn after_profiles(model: u16) -> Due
+        ensures { λ r. ⌜ r ≡ dueAfterProfiles model ⌝ }
+    {
+        if model == 953 {
+            Due::only(0x07)
+        } else {
+            Due::either(0x0F, 0x07)
+        }
+    }
+
     fn after_results(function: u16) -> Due
         ensures { λ r. ⌜ r ≡ dueAfterResults function ⌝ }
     {
@@ -72,7 +82,7 @@ impl Due {
             0x02 => Due::only(0x03),
             0x03 => Due::only(0x04),
             0x04 => Due::only(0x05),
-            0x05 => Due::either(0x0F, 0x07),
+            0x05 => Due::after_profiles(setup.model),
             0x07 => Due::after_results(setup.function),
             0x0E => Due::either(0x09, END_MARKER),
             0x10 => Due::either(0x09, END_MARKER),

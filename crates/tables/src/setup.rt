@@ -10,8 +10,9 @@ ghost use mathlib.Core.List.{[]};
 ghost use Rattle.words.specs.Words.{wordsOf};
 ghost use Rattle.tables.specs.Setup.{bandsOf, levelsOf, noSetup, classesOf, learnt, slimOf, rowFor, profileLevels};
 
-// What later blocks depend on: the function, the levels of bands and of profiles in a buffer record, the numbers of classes.
+// What later blocks depend on: the model, the function, the levels of bands and of profiles in a buffer record, the numbers of classes.
 pub struct Setup {
+    pub model: u16,
     pub function: u16,
     pub bands: u16,
     pub profiles: u16,
@@ -55,6 +56,7 @@ impl Setup {
         ensures { λ r. ⌜ r ≡ noSetup ⌝ }
     {
         Setup {
+            model: 0,
             function: 0,
             bands: 0,
             profiles: 0,
@@ -83,43 +85,37 @@ impl Setup {
         match id {
             0x0B => histogram_row(self.classes(header / 256)),
             0x0F => logger_row(self.bands, self.profiles),
-            _ => row_of(id),
+            _ => row_of(self.model, id),
         }
     }
 
     // What is known after a listed block.
     pub fn learnt(self, b: &[u8]) -> Setup
-        ensures { λ r. ⌜ r ≡ learnt self (slimOf (wordsOf (now (b .entry))) []) ⌝ }
+        ensures { λ r. ⌜ r ≡ learnt self (slimOf self (wordsOf (now (b .entry))) []) ⌝ }
     {
         let id = word(b, 0) % 256;
+        let mut known = self;
         match id {
+            0x02 => {
+                known.model = word(b, 2);
+                known
+            }
             0x04 => {
                 let function = word(b, 3);
-                Setup {
-                    function,
-                    bands: bands_of(function, word(b, 22)),
-                    profiles: self.profiles,
-                    first: self.first,
-                    second: self.second,
-                    third: self.third,
-                }
+                known.function = function;
+                known.bands = bands_of(function, word(b, 22));
+                known
             }
-            0x05 => Setup {
-                function: self.function,
-                bands: self.bands,
-                profiles: profile_levels(b),
-                first: self.first,
-                second: self.second,
-                third: self.third,
-            },
-            0x09 => Setup {
-                function: self.function,
-                bands: self.bands,
-                profiles: self.profiles,
-                first: record_word(b, 0, 1),
-                second: record_word(b, 1, 1),
-                third: record_word(b, 2, 1),
-            },
+            0x05 => {
+                known.profiles = profile_levels(b);
+                known
+            }
+            0x09 => {
+                known.first = record_word(b, 0, 1);
+                known.second = record_word(b, 1, 1);
+                known.third = record_word(b, 2, 1);
+                known
+            }
             _ => self,
         }
     }

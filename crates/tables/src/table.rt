@@ -1,25 +1,108 @@
-// The tables of the 945, as data.
+// The tables of the 945 and of the 953, as data.
+use rules::Kind;
+use rules::More;
 use rules::Row;
 use rules::Rule;
 use rules::Rules;
 use rules::Subs;
 ghost use mathlib.Core.Path.{_≡_};
+ghost use mathlib.Core.List.{[], _∷_};
 ghost use Prim.Native.Nat.{_+_};
-ghost use Rattle.tables.specs.Table.{bandRules, row0B, row0F, rowOf};
+ghost use Rattle.tables.specs.Table.{rule, within, equals, oneOf, also, noRule, rules, subBlocks, noSubs, tableRow, row02, row03, row04, row05, row07, row0E, row10, row09, row0B, unlisted, bandRules, row0F, rowOf};
+ghost use Rattle.rules.specs.declared.More.the-variants.{Nothing};
+
+// ---- rules and rows
+
+fn rule(off: u16, kind: Kind, num: u8) -> Rule
+    ensures { λ r. ⌜ r ≡ rule off kind num ⌝ }
+{
+    Rule {
+        off,
+        kind,
+        num,
+        from: 0,
+        upto: 0,
+    }
+}
+
+// Word `off` is `lo` to `hi`.
+fn within(off: u16, lo: u16, hi: u16, num: u8) -> Rule
+    ensures { λ r. ⌜ r ≡ within off lo hi num ⌝ }
+{
+    rule(off, Kind::Range { lo, hi }, num)
+}
+
+fn equals(off: u16, v: u16, num: u8) -> Rule
+    ensures { λ r. ⌜ r ≡ equals off v num ⌝ }
+{
+    within(off, v, v, num)
+}
+
+fn one_of(off: u16, one: u16, two: u16, three: u16, num: u8) -> Rule
+    ensures { λ r. ⌜ r ≡ oneOf off one two three num ⌝ }
+{
+    rule(off, Kind::OneOf { one, two, three }, num)
+}
+
+// Asked only where the function is `from` to `upto`.
+fn also(from: u16, upto: u16, rule: Rule) -> Rule
+    ensures { λ r. ⌜ r ≡ also from upto rule ⌝ }
+{
+    let mut r = rule;
+    r.from = from;
+    r.upto = upto;
+    r
+}
 
 // Fills up a list of rules, and is never asked.
 const NO_RULE: Rule = Rule {
     off: 0,
-    lo: 0,
-    hi: 0,
+    kind: Kind::Range { lo: 0, hi: 0 },
     num: 0,
     from: 0,
+    upto: 0,
 };
 
 const NO_RULES: Rules = Rules {
     count: 0,
     list: [NO_RULE, NO_RULE, NO_RULE, NO_RULE],
 };
+
+fn one(a: Rule) -> Rules
+    ensures { λ r. ⌜ r ≡ rules (a ∷ []) ⌝ }
+{
+    Rules {
+        count: 1,
+        list: [a, NO_RULE, NO_RULE, NO_RULE],
+    }
+}
+
+fn two(a: Rule, b: Rule) -> Rules
+    ensures { λ r. ⌜ r ≡ rules (a ∷ (b ∷ [])) ⌝ }
+{
+    Rules {
+        count: 2,
+        list: [a, b, NO_RULE, NO_RULE],
+    }
+}
+
+fn three(a: Rule, b: Rule, c: Rule) -> Rules
+    ensures { λ r. ⌜ r ≡ rules (a ∷ (b ∷ (c ∷ []))) ⌝ }
+{
+    Rules {
+        count: 3,
+        list: [a, b, c, NO_RULE],
+    }
+}
+
+fn four(a: Rule, b: Rule, c: Rule, d: Rule) -> Rules
+    ensures { λ r. ⌜ r ≡ rules (a ∷ (b ∷ (c ∷ (d ∷ [])))) ⌝ }
+{
+    Rules {
+        count: 4,
+        list: [a, b, c, d],
+    }
+}
 
 const NO_SUBS: Subs = Subs {
     count: 0,
@@ -28,410 +111,231 @@ const NO_SUBS: Subs = Subs {
     rules: NO_RULES,
 };
 
-// Tab. B.1.1, file header.
-const FILE_HEADER: Row = Row {
-    listed: true,
-    least: 12,
-    exact: false,
-    text: false,
-    rules: NO_RULES,
-    logger: false,
-    width: 0,
-    subs: NO_SUBS,
-};
-
-// Tab. B.1.2, unit and software specification.
-const UNIT_TYPE: Rule = Rule {
-    off: 2,
-    lo: 945,
-    hi: 945,
-    num: 5,
-    from: 0,
-};
-
-const UNIT: Row = Row {
-    listed: true,
-    least: 6,
-    exact: false,
-    text: false,
-    rules: Rules {
-        count: 1,
-        list: [UNIT_TYPE, NO_RULE, NO_RULE, NO_RULE],
-    },
-    logger: false,
-    width: 0,
-    subs: NO_SUBS,
-};
-
-// Tab. B.1.3, user's text.
-const TITLE: Row = Row {
-    listed: true,
-    least: 2,
-    exact: false,
-    text: true,
-    rules: NO_RULES,
-    logger: false,
-    width: 0,
-    subs: NO_SUBS,
-};
-
-// Tab. B.1.4, parameters and global settings. The filter and the buffering of bands are asked of functions 2 and 3.
-const FUNCTION: Rule = Rule {
-    off: 3,
-    lo: 1,
-    hi: 3,
-    num: 8,
-    from: 0,
-};
-
-const BAND_FILTER: Rule = Rule {
-    off: 21,
-    lo: 0,
-    hi: 3,
-    num: 8,
-    from: 2,
-};
-
-const BAND_BUFFERING: Rule = Rule {
-    off: 22,
-    lo: 0,
-    hi: 1,
-    num: 8,
-    from: 2,
-};
-
-const SETTINGS: Row = Row {
-    listed: true,
-    least: 23,
-    exact: false,
-    text: false,
-    rules: Rules {
-        count: 3,
-        list: [FUNCTION, BAND_FILTER, BAND_BUFFERING, NO_RULE],
-    },
-    logger: false,
-    width: 0,
-    subs: NO_SUBS,
-};
-
-// Count 3 and mask 7 in word 1 of 05 and 07; mask 7 and count 3 in word 1 of 09.
-const COUNT_AND_MASK: Rule = Rule {
-    off: 1,
-    lo: 0x0307,
-    hi: 0x0307,
-    num: 6,
-    from: 0,
-};
-
-const MASK_AND_COUNT: Rule = Rule {
-    off: 1,
-    lo: 0x0703,
-    hi: 0x0703,
-    num: 6,
-    from: 0,
-};
-
-// Tab. B.1.5, special settings for profiles.
-const PROFILE_FILTER: Rule = Rule {
-    off: 2,
-    lo: 1,
-    hi: 4,
-    num: 8,
-    from: 0,
-};
-
-const PROFILE_BUFFER: Rule = Rule {
-    off: 3,
-    lo: 0,
-    hi: 4,
-    num: 8,
-    from: 0,
-};
-
-const PROFILES: Row = Row {
-    listed: true,
-    least: 20,
-    exact: false,
-    text: false,
-    rules: Rules {
-        count: 1,
-        list: [COUNT_AND_MASK, NO_RULE, NO_RULE, NO_RULE],
-    },
-    logger: false,
-    width: 0,
-    subs: Subs {
-        count: 3,
-        id: 0x06,
-        least: 6,
-        rules: Rules {
-            count: 2,
-            list: [PROFILE_FILTER, PROFILE_BUFFER, NO_RULE, NO_RULE],
-        },
-    },
-};
-
-// Tab. B.1.6, main results.
-const RESULTS: Row = Row {
-    listed: true,
-    least: 44,
-    exact: false,
-    text: false,
-    rules: Rules {
-        count: 1,
-        list: [COUNT_AND_MASK, NO_RULE, NO_RULE, NO_RULE],
-    },
-    logger: false,
-    width: 0,
-    subs: Subs {
-        count: 3,
-        id: 0x08,
-        least: 14,
-        rules: NO_RULES,
-    },
-};
-
-// Word 1 of a spectrum.
-const ONE_SPECTRUM: Rule = Rule {
-    off: 1,
-    lo: 0x0101,
-    hi: 0x0101,
-    num: 6,
-    from: 0,
-};
-
-// Tab. B.1.7, 1/1 octave analysis.
-const OCTAVE: Row = Row {
-    listed: true,
-    least: 23,
-    exact: false,
-    text: false,
-    rules: Rules {
-        count: 4,
-        list: [
-            ONE_SPECTRUM,
-            Rule {
-                off: 2,
-                lo: 100,
-                hi: 100,
-                num: 8,
-                from: 0,
-            },
-            Rule {
-                off: 3,
-                lo: 15,
-                hi: 15,
-                num: 8,
-                from: 0,
-            },
-            Rule {
-                off: 4,
-                lo: 3,
-                hi: 3,
-                num: 8,
-                from: 0,
-            },
-        ],
-    },
-    logger: false,
-    width: 0,
-    subs: NO_SUBS,
-};
-
-// Tab. B.1.8, 1/3 octave analysis.
-const THIRD: Row = Row {
-    listed: true,
-    least: 53,
-    exact: false,
-    text: false,
-    rules: Rules {
-        count: 4,
-        list: [
-            ONE_SPECTRUM,
-            Rule {
-                off: 2,
-                lo: 80,
-                hi: 80,
-                num: 8,
-                from: 0,
-            },
-            Rule {
-                off: 3,
-                lo: 45,
-                hi: 45,
-                num: 8,
-                from: 0,
-            },
-            Rule {
-                off: 4,
-                lo: 3,
-                hi: 3,
-                num: 8,
-                from: 0,
-            },
-        ],
-    },
-    logger: false,
-    width: 0,
-    subs: NO_SUBS,
-};
-
-// Tab. B.1.12, statistics header.
-const STATISTICS: Row = Row {
-    listed: true,
-    least: 14,
-    exact: false,
-    text: false,
-    rules: Rules {
-        count: 1,
-        list: [MASK_AND_COUNT, NO_RULE, NO_RULE, NO_RULE],
-    },
-    logger: false,
-    width: 0,
-    subs: Subs {
-        count: 3,
-        id: 0x0A,
-        least: 4,
-        rules: NO_RULES,
-    },
-};
-
-// Tab. B.1.13, statistics: of no classes. The long form is allowed.
-const HISTOGRAM: Row = Row {
-    listed: true,
-    least: 2,
-    exact: true,
-    text: false,
-    rules: NO_RULES,
-    logger: false,
-    width: 0,
-    subs: NO_SUBS,
-};
-
-// Tab. B.1.16, header of the file from the buffer: before records of no words.
-const LOGGER: Row = Row {
-    listed: true,
-    least: 8,
-    exact: false,
-    text: false,
-    rules: NO_RULES,
-    logger: true,
-    width: 0,
-    subs: NO_SUBS,
-};
-
-// Words 3 to 5 of it where a buffer record has bands: as words 2 to 4 of the spectrum.
-const OCTAVE_BANDS: Rules = Rules {
-    count: 3,
-    list: [
-        Rule {
-            off: 3,
-            lo: 100,
-            hi: 100,
-            num: 8,
-            from: 0,
-        },
-        Rule {
-            off: 4,
-            lo: 15,
-            hi: 15,
-            num: 8,
-            from: 0,
-        },
-        Rule {
-            off: 5,
-            lo: 3,
-            hi: 3,
-            num: 8,
-            from: 0,
-        },
-        NO_RULE,
-    ],
-};
-
-const THIRD_BANDS: Rules = Rules {
-    count: 3,
-    list: [
-        Rule {
-            off: 3,
-            lo: 80,
-            hi: 80,
-            num: 8,
-            from: 0,
-        },
-        Rule {
-            off: 4,
-            lo: 45,
-            hi: 45,
-            num: 8,
-            from: 0,
-        },
-        Rule {
-            off: 5,
-            lo: 3,
-            hi: 3,
-            num: 8,
-            from: 0,
-        },
-        NO_RULE,
-    ],
-};
-
-// A block that is not listed.
-const UNLISTED: Row = Row {
-    listed: false,
-    least: 0,
-    exact: false,
-    text: false,
-    rules: NO_RULES,
-    logger: false,
-    width: 0,
-    subs: NO_SUBS,
-};
-
-// The row of an id, where no block before it matters.
-pub fn row_of(id: u16) -> Row
-    ensures { λ r. ⌜ r ≡ rowOf id ⌝ }
+fn three_subs(id: u8, least: usize, rules: Rules) -> Subs
+    ensures { λ r. ⌜ r ≡ record { count = 3; id = id; least = least; rules = rules } ⌝ }
 {
-    match id {
-        0x01 => FILE_HEADER,
-        0x02 => UNIT,
-        0x03 => TITLE,
-        0x04 => SETTINGS,
-        0x05 => PROFILES,
-        0x07 => RESULTS,
-        0x0E => OCTAVE,
-        0x10 => THIRD,
-        0x09 => STATISTICS,
-        0x0B => HISTOGRAM,
-        0x0F => LOGGER,
-        _ => UNLISTED,
+    Subs {
+        count: 3,
+        id,
+        least,
+        rules,
     }
 }
 
+fn row(least: usize, rules: Rules, more: More, subs: Subs) -> Row
+    ensures { λ r. ⌜ r ≡ tableRow least rules more subs ⌝ }
+{
+    Row {
+        listed: true,
+        least,
+        exact: false,
+        text: false,
+        rules,
+        more,
+        logger: false,
+        width: 0,
+        subs,
+    }
+}
+
+fn with_subs(least: usize, rules: Rules, subs: Subs) -> Row
+    ensures { λ r. ⌜ r ≡ tableRow least rules Nothing subs ⌝ }
+{
+    row(least, rules, More::Nothing, subs)
+}
+
+fn plain(least: usize, rules: Rules) -> Row
+    ensures { λ r. ⌜ r ≡ tableRow least rules Nothing noSubs ⌝ }
+{
+    with_subs(least, rules, NO_SUBS)
+}
+
+// ---- the rows
+
+// Tab. B.1.2, unit and software specification. Request T-01 lets the 953 in; until then no file reaches a 953's column.
+fn unit() -> Row
+    ensures { λ r. ⌜ r ≡ row02 ⌝ }
+{
+    row(
+        6,
+        one(equals(2, 945, 5)),
+        More::Where {
+            at: 2,
+            is: 953,
+            words: 4,
+        },
+        NO_SUBS,
+    )
+}
+
+// Tab. B.1.4, parameters and global settings.
+fn settings(model: u16) -> Row
+    ensures { λ r. ⌜ r ≡ row04 model ⌝ }
+{
+    if model == 953 {
+        plain(
+            28,
+            three(
+                one_of(3, 1, 2, 4, 8),
+                also(2, 2, one_of(14, 0, 2, 3, 8)),
+                also(2, 2, within(15, 0, 1, 8)),
+            ),
+        )
+    } else {
+        plain(
+            23,
+            three(
+                within(3, 1, 3, 8),
+                also(2, 3, within(21, 0, 3, 8)),
+                also(2, 3, within(22, 0, 1, 8)),
+            ),
+        )
+    }
+}
+
+// Tab. B.1.3, user's text.
+fn title() -> Row
+    ensures { λ r. ⌜ r ≡ row03 ⌝ }
+{
+    let mut r = plain(2, NO_RULES);
+    r.text = true;
+    r
+}
+
+// Tab. B.1.5, special settings for profiles. Count 3 and mask 7 in word 1 of 05 and 07; mask 7 and count 3 in word 1 of 09.
+fn profiles(model: u16) -> Row
+    ensures { λ r. ⌜ r ≡ row05 model ⌝ }
+{
+    let head = one(equals(1, 0x0307, 6));
+    if model == 953 {
+        with_subs(
+            20,
+            head,
+            three_subs(0x06, 6, two(one_of(2, 0, 2, 3, 8), within(3, 0, 15, 8))),
+        )
+    } else {
+        with_subs(
+            20,
+            head,
+            three_subs(0x06, 6, two(within(2, 1, 4, 8), within(3, 0, 4, 8))),
+        )
+    }
+}
+
+// Tab. B.1.6, main results.
+fn results(model: u16) -> Row
+    ensures { λ r. ⌜ r ≡ row07 model ⌝ }
+{
+    let head = one(equals(1, 0x0307, 6));
+    if model == 953 {
+        with_subs(47, head, three_subs(0x08, 15, NO_RULES))
+    } else {
+        with_subs(44, head, three_subs(0x08, 14, NO_RULES))
+    }
+}
+
+// Tab. B.1.7, 1/1 octave analysis.
+fn octave(model: u16) -> Row
+    ensures { λ r. ⌜ r ≡ row0E model ⌝ }
+{
+    let head = equals(1, 0x0101, 6);
+    if model == 953 {
+        row(
+            5,
+            four(
+                head,
+                rule(2, Kind::Band, 8),
+                rule(3, Kind::BandsFrom { first: 2 }, 8),
+                within(4, 0, 3, 8),
+            ),
+            More::Counts { at: 3 },
+            NO_SUBS,
+        )
+    } else {
+        plain(
+            23,
+            four(head, equals(2, 100, 8), equals(3, 15, 8), equals(4, 3, 8)),
+        )
+    }
+}
+
+// Tab. B.1.8, 1/3 octave analysis.
+fn third() -> Row
+    ensures { λ r. ⌜ r ≡ row10 ⌝ }
+{
+    plain(
+        53,
+        four(
+            equals(1, 0x0101, 6),
+            equals(2, 80, 8),
+            equals(3, 45, 8),
+            equals(4, 3, 8),
+        ),
+    )
+}
+
+// Tab. B.1.12, statistics header.
+fn statistics() -> Row
+    ensures { λ r. ⌜ r ≡ row09 ⌝ }
+{
+    with_subs(14, one(equals(1, 0x0703, 6)), three_subs(0x0A, 4, NO_RULES))
+}
+
+// Tab. B.1.13, statistics. The long form is allowed.
 pub fn histogram_row(classes: u16) -> Row
     ensures { λ r. ⌜ r ≡ row0B classes ⌝ }
 {
-    let mut row = HISTOGRAM;
-    row.least = 2 * (classes as usize) + 2;
-    row
+    let mut r = plain(2 * (classes as usize) + 2, NO_RULES);
+    r.exact = true;
+    r
 }
 
+// Words 3 to 5 of a logger header where a buffer record has bands: as words 2 to 4 of the spectrum.
 fn band_rules(bands: u16) -> Rules
     ensures { λ r. ⌜ r ≡ bandRules bands ⌝ }
 {
     match bands {
-        18 => OCTAVE_BANDS,
-        48 => THIRD_BANDS,
+        18 => three(equals(3, 100, 8), equals(4, 15, 8), equals(5, 3, 8)),
+        48 => three(equals(3, 80, 8), equals(4, 45, 8), equals(5, 3, 8)),
         _ => NO_RULES,
     }
 }
 
-// A logger header before records of so many levels.
+// Tab. B.1.16, header of the file from the buffer, before records of so many levels.
 pub fn logger_row(bands: u16, profiles: u16) -> Row
     ensures { λ r. ⌜ r ≡ row0F (bandRules bands) (profiles + bands) ⌝ }
 {
-    let mut row = LOGGER;
-    row.rules = band_rules(bands);
-    row.width = profiles as usize + bands as usize;
-    row
+    let mut r = plain(8, band_rules(bands));
+    r.logger = true;
+    r.width = profiles as usize + bands as usize;
+    r
+}
+
+// A block that is not listed.
+fn unlisted() -> Row
+    ensures { λ r. ⌜ r ≡ unlisted ⌝ }
+{
+    let mut r = plain(0, NO_RULES);
+    r.listed = false;
+    r
+}
+
+// The row of an id in a model, where no other block before it matters.
+pub fn row_of(model: u16, id: u16) -> Row
+    ensures { λ r. ⌜ r ≡ rowOf model id ⌝ }
+{
+    match id {
+        0x01 => plain(12, NO_RULES),
+        0x02 => unit(),
+        0x03 => title(),
+        0x04 => settings(model),
+        0x05 => profiles(model),
+        0x07 => results(model),
+        0x0E => octave(model),
+        0x10 => third(),
+        0x09 => statistics(),
+        0x0B => histogram_row(0),
+        0x0F => logger_row(0, 0),
+        _ => unlisted(),
+    }
 }

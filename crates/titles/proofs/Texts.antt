@@ -12,9 +12,9 @@ use Rattle.text.specs.Text.{beforeNull}
 use Rattle.rules.specs.Block.{nulled, readable}
 use Rattle.rules.specs.Slim.{Slim, textOf, cutText, headBy, slimBy}
 use Rattle.rules.proofs.BlockLaws.{kept-says}
-use Rattle.tables.specs.Table.{rowOf}
-use Rattle.tables.specs.Setup.{slimOf}
-use Rattle.tables.proofs.TableLaws.{row-text}
+use Rattle.tables.specs.Table.{kindOf}
+use Rattle.tables.specs.Setup.{rowFor, slimOf}
+use Rattle.tables.proofs.TableLaws.{row-exact, row-text}
 use Rattle.accept.specs.Slims.{blockAt}
 use Rattle.accept.proofs.Found.{block-at, Found, there, nowhere, found}
 use Rattle.accept.proofs.FoundWords.{place-id}
@@ -54,23 +54,24 @@ block-text (w ∷ b) vs e = text-within b vs e
 -- ---- the text of a block that was found
 
 -- the files that may be accepted have 32,768 words at most
-module _ {ws : List ℕ} (few : length ws ≤ 32768) {start : ℕ} {x : Slim} where
+module _ {ws : List ℕ} (few : length ws ≤ 32768) {model start : ℕ} {x : Slim} where
   -- a text, read from word 1 of its block on in the file, and in the block's slim form
-  pub found-text : (id : ℕ) → id < 256 → (id ≡ 0x0B → ⊥) → (id ≡ 0x0E → ⊥) → rowOf id .exact ≡ false → rowOf id .text ≡ true → Found ws id start x
+  pub found-text : (id : ℕ) → id < 256 → (id ≡ 0x0B → ⊥) → (id ≡ 0x0E → ⊥) → kindOf id .exact ≡ false → kindOf id .text ≡ true → Found ws model id start x
       → beforeNull (bytesOf (drop (start + 1) ws)) ≡ beforeNull (bytesOf (drop 1 (x .head)))
   unfolding readable slimOf slimBy headBy cutText
   found-text id small b e ex tx (there t) =
       let block = blockAt ws start in
       let w = getD block 0 0 in
       let same : low w ≡ id = place-id w id small b e (t .place-is) in
-      let text = row-text (t .setup) w ∙ ap (λ (i : ℕ). rowOf i .text) same ∙ tx in
+      let text = row-text (t .setup) w ∙ ap (λ (i : ℕ). kindOf i .text) same ∙ tx in
+      let exact = row-exact (t .setup) w ∙ ap (λ (i : ℕ). kindOf i .exact) same ∙ ex in
       let null : nulled (drop 1 block) ≡ true = rw text at (kept-says _ block (t .good) .null) in
-      let head : x .head ≡ headBy (rowOf id) block = ap (λ (y : Slim). y .head) (t .slim) ∙ ap (λ (i : ℕ). headBy (rowOf i) block) same in
+      let head : x .head ≡ headBy (rowFor (t .setup) w) block = ap (λ (y : Slim). y .head) (t .slim) in
       let front : block ++ drop (length block) (drop start ws) ≡ drop start ws =
       ap (λ (l : List ℕ). l ++ drop (length block) (drop start ws)) (block-at ws start (length block) (t .front)) ∙ take-append-drop (length block) (drop start ws)
       in
       ap (λ (l : List ℕ). beforeNull (bytesOf l)) (sym (drop-drop 1 start ws) ∙ ap (drop 1) (sym front))
       ∙ block-text block _ null
       ∙ sym (text-kept (drop 1 block))
-      ∙ sym (ap (λ (l : List ℕ). beforeNull (bytesOf (drop 1 l))) head ∙ rw (ex, tx))
+      ∙ sym (ap (λ (l : List ℕ). beforeNull (bytesOf (drop 1 l))) head ∙ rw (exact, text))
   found-text id small b e ex tx (nowhere a n) = rw (n, drop-of-length-le ws {i = start + 1} (omega arith))

@@ -4,7 +4,7 @@ use native.Mathlib.Omega.{arith}
 use mathlib.Core.Path.{sym, _∙_}
 use Rattle.words.specs.Words.{wordsOf}
 use Rattle.cuts.proofs.TextLaws.{is-text}
-use Rattle.cuts.proofs.CutLaws.{exact-words, text-words, plain-words, slim-short}
+use Rattle.cuts.proofs.CutLaws.{least-byte, exact-words, text-words, plain-words, slim-short}
 use Rattle.cuts.proofs.slim_words.Statement.{statement}
 use Rattle.cuts.proofs.slim_words.Tie as tie
 
@@ -25,8 +25,11 @@ add-result c =
     let e = c .before .before .before .before in
     omega (arith, returns-2 c, slim-short (e .before .before .pre), e .before .before .pre .short (e .if1 .left))
 
+least-of-requires : tie.Need-least-of-requires
+least-of-requires c κs = least-byte (c .before .before .before .pre) (c .before .if1 .left)
+
 returns-3 : tie.Need-returns-3
-returns-3 c = sym (plain-words (c .before .before .before .pre) (c .before .if1 .left) (c .if2 .left))
+returns-3 c = c .least-of .ensures ∙ sym (plain-words (c .before .before .before .before .pre) (c .before .before .if1 .left) (c .before .if2 .left))
 
 pub slim-words-spec : {M : Type 1} → statement M
-slim-words-spec = tie.close (tie.spec (λ c κs. search needs) returns (λ c κs. search needs) (λ c κs. search needs) (λ c κs. search needs) add-result returns-2 returns-3)
+slim-words-spec = tie.close (tie.spec (λ c κs. search needs) returns (λ c κs. search needs) (λ c κs. search needs) (λ c κs. search needs) add-result returns-2 least-of-requires returns-3)

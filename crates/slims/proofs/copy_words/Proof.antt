@@ -17,20 +17,22 @@ use Rattle.slims.proofs.copy_words.Tie as tie
 use Rattle.slims.proofs.copy_words.Reads as reads
 use Rattle.slims.proofs.copy_words.Lts as lts
 use Rattle.blocks.proofs.Cursor.start.Reads as start-reads
+use Rattle.tables.proofs.setup.Setup.none.Reads as none-reads
 use Rattle.blocks.proofs.Cursor.step.Reads as step-reads
 use Rattle.slims.proofs.part_words.Reads as part-words-reads
+use Rattle.slims.proofs.known_from.Reads as known-from-reads
 
 abbrev Inv-loop : tie.InvT-loop
-Inv-loop file cursor₀ n₀ cursor n =
-    (xs : List Slim) × (Onward (wordsOf file) cursor xs × (n + length (slimWords xs) ≡ length (slimWords (slimsIn file))))
+Inv-loop file cursor₀ known₀ n₀ cursor known n =
+    (xs : List Slim) × (Onward (wordsOf file) cursor known xs × (n + length (slimWords xs) ≡ length (slimWords (slimsIn file))))
 
 abbrev μ-loop : tie.MeasureT-loop
-μ-loop file cursor₀ n₀ cursor n = suc (length (wordsOf file)) - cursor .at
+μ-loop file cursor₀ known₀ n₀ cursor known n = suc (length (wordsOf file)) - cursor .at
 
 loop-holds : tie.Need-loop-holds Inv-loop μ-loop
 loop-holds c =
-    let s = c .before .before in
-    (slimsIn (s .args .file .now), (rw (c .start .ensures) (onward _ _ (s .pre .passed)), omega arith))
+    let s = c .before .before .before in
+    (slimsIn (s .args .file .now), (rw (c .none .ensures, c .before .start .ensures) (onward _ _ (s .pre .passed)), omega arith))
 
 returns : tie.Need-returns Inv-loop μ-loop
 returns c =
@@ -40,30 +42,31 @@ returns c =
 
 add-result : tie.Need-add-result Inv-loop μ-loop
 add-result c =
-    let s = c .before .before .before .before .before in
+    let s = c .before .before .before .before .before .before in
     omega (arith, returns c, copy-few _ (λ i. omega (arith, s .shared-slice-known .given i)) (s .before .pre))
 
 -- the turn over a block
-told : (k : lts.After-step2 (start-reads.Asked, start-reads.Learnt, step-reads.Asked, step-reads.Learnt, part-words-reads.Asked, part-words-reads.Learnt) reads.Pre reads.Post Inv-loop μ-loop)
-    → Turn (wordsOf (k .before .before .before .before .before .before .args .file .now)) (k .before .before .before .loop .cursor) (k .before .before .before .loop .inv .0)
+told : (k : lts.After-step2 (start-reads.Asked, start-reads.Learnt, none-reads.Asked, none-reads.Learnt, step-reads.Asked, step-reads.Learnt, part-words-reads.Asked, part-words-reads.Learnt, known-from-reads.Asked, known-from-reads.Learnt) reads.Pre reads.Post Inv-loop μ-loop)
+    → Turn (wordsOf (k .before .before .before .before .before .before .before .args .file .now)) (k .before .before .before .loop .cursor) (k .before .before .before .loop .known) (k .before .before .before .loop .inv .0)
     (k .step2 .given .0 .1 .1 .0) (k .step2 .given .0 .1 .1 .1 .0) (k .step2 .given .0 .1 .1 .1 .1 .0)
 told k =
     let l = k .before .before .before in
-    let s = l .before .before in
+    let s = l .before .before .before in
     turn (λ i. omega (arith, s .shared-slice-known .given i)) (s .before .pre) (l .loop .inv .1 .0) _ _ _ _ _ (sym (k .before .before .step .ensures) ∙ k .step2 .given .1)
-
-loop-again : tie.Need-loop-again Inv-loop μ-loop
-loop-again c =
-    let t = told (c .before .before) in
-    (t .more, (t .on, omega (arith, c .before .before .before .before .before .loop .inv .1 .1, c .part-words .ensures, t .sum)))
 
 add-n : tie.Need-add-n Inv-loop μ-loop
 add-n c =
-    let s = c .before .before .before .before .before .before .before in
-    omega (arith, loop-again c .1 .1, copy-few _ (λ i. omega (arith, s .shared-slice-known .given i)) (s .before .pre))
+    let t = told (c .before .before) in
+    let s = c .before .before .before .before .before .before .before .before in
+    omega (arith, c .before .before .before .before .before .loop .inv .1 .1, c .part-words .ensures, t .sum, copy-few _ (λ i. omega (arith, s .shared-slice-known .given i)) (s .before .pre))
+
+loop-again : tie.Need-loop-again Inv-loop μ-loop
+loop-again c =
+    let t = told (c .before .before .before) in
+    (t .more, (rw (c .known-from .ensures) (t .on), omega (arith, c .before .before .before .before .before .before .loop .inv .1 .1, c .before .part-words .ensures, t .sum)))
 
 pub copy-words-spec : {M : Type 1} → statement M
 copy-words-spec =
     tie.close
-    (tie.spec Inv-loop μ-loop (λ c κs. search needs) loop-holds (λ c κs. search needs) (λ c. search needs) (λ c. search needs) add-result returns
-    (λ c κs. told (c .before) .within) add-n (λ c. omega (arith, told (c .before .before) .further)) loop-again)
+    (tie.spec Inv-loop μ-loop (λ c κs. search needs) (λ c κs. search needs) loop-holds (λ c κs. search needs) (λ c. search needs) (λ c. search needs) add-result returns
+    (λ c κs. told (c .before) .within) add-n (λ c κs. search needs) (λ c. omega (arith, told (c .before .before .before) .further)) loop-again)

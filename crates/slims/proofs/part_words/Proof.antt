@@ -14,28 +14,28 @@ returns : tie.Need-returns
 returns c =
     let f = c .before .before in
     let s = f .before .before .before .before .args in
-    let t = read-at (wordsOf (s .file .now)) (s .start) (s .len) (f .before .before .rest .ensures) (f .before .front .ensures) (f .row-by .ensures) in
+    let t = read-at (wordsOf (s .file .now)) (s .known) (s .start) (s .len) (f .before .before .rest .ensures) (f .before .front .ensures) (f .row-by .ensures) in
     sym (ap length (read-unlisted t (not-true _ (c .if1 .taken))))
 
 slim-words-requires : tie.Need-slim-words-requires
 slim-words-requires c κs =
     let f = c .before .before in
     let s = f .before .before .before .before in
-    let t = read-at (wordsOf (s .args .file .now)) (s .args .start) (s .args .len) (f .before .before .rest .ensures) (f .before .front .ensures) (f .row-by .ensures) in
+    let t = read-at (wordsOf (s .args .file .now)) (s .args .known) (s .args .start) (s .args .len) (f .before .before .rest .ensures) (f .before .front .ensures) (f .row-by .ensures) in
     read-cuts t (s .pre) (not-false _ (c .if1 .left))
 
 returns-2 : tie.Need-returns-2
 returns-2 c =
     let f = c .before .before .before .before in
     let s = f .before .before .before .before in
-    let t = read-at (wordsOf (s .args .file .now)) (s .args .start) (s .args .len) (f .before .before .rest .ensures) (f .before .front .ensures) (f .row-by .ensures) in
+    let t = read-at (wordsOf (s .args .file .now)) (s .args .known) (s .args .start) (s .args .len) (f .before .before .rest .ensures) (f .before .front .ensures) (f .row-by .ensures) in
     omega (arith, c .raw-words .ensures, c .before .slim-words .ensures, read-length t (s .pre) (not-false _ (c .before .before .if1 .left)))
 
 add-result : tie.Need-add-result
 add-result c =
     let f = c .before .before .before .before in
     let s = f .before .before .before .before in
-    let t = read-at (wordsOf (s .args .file .now)) (s .args .start) (s .args .len) (f .before .before .rest .ensures) (f .before .front .ensures) (f .row-by .ensures) in
+    let t = read-at (wordsOf (s .args .file .now)) (s .args .known) (s .args .start) (s .args .len) (f .before .before .rest .ensures) (f .before .front .ensures) (f .row-by .ensures) in
     omega (arith, returns-2 c, read-short t (s .pre), s .pre .short, s .pre .fits, ap rawOf (t .words))
 
 pub part-words-spec : {M : Type 1} → statement M

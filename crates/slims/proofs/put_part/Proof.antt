@@ -1,7 +1,7 @@
 -- `slims::put_part` meets its contract: the block's slim form, and then its raw words. Assumes nothing.
 use native.Mathlib.Omega.{arith}
 use mathlib.Core.List.{List, []}
-use mathlib.Core.Path.{_≡_, sym, subst}
+use mathlib.Core.Path.{_≡_, sym, ap, subst}
 use Prim.Native.Nat.{ℕ, _+_}
 use lib.ListN.{take, drop}
 use borrow.Author.Needs.{needs}
@@ -11,7 +11,7 @@ use Rattle.blocks.specs.Walk.{rawOf}
 use Rattle.rules.specs.Slim.{slimBy, wordsIn}
 use Rattle.cuts.specs.Cut.{HasRoom}
 use Rattle.cuts.proofs.WordWriting.{begin, finished, words-are, words-then, room-next}
-use Rattle.slims.proofs.CopyLaws.{Read, read-at, read-unlisted, read-listed, read-cuts, read-length}
+use Rattle.slims.proofs.CopyLaws.{Read, read-at, read-unlisted, read-listed, read-cuts, read-length, read-short}
 use Rattle.slims.proofs.put_part.Statement.{statement}
 use Rattle.slims.proofs.put_part.Tie as tie
 use Rattle.slims.proofs.put_part.Reads as reads
@@ -25,11 +25,11 @@ use Rattle.slims.proofs.row_by.Reads as row-by-reads
 
 -- what is known once the block and its row are found
 told : (f : lts.After-row-by (rest-reads.Asked, rest-reads.Learnt, front-reads.Asked, front-reads.Learnt, row-by-reads.Asked, row-by-reads.Learnt, put-slim-reads.Asked, put-slim-reads.Learnt, raw-words-reads.Asked, raw-words-reads.Learnt, put-words-reads.Asked, put-words-reads.Learnt) reads.Pre reads.Post)
-    → Read (wordsOf (f .before .before .before .before .before .args .file .now)) (f .before .before .before .before .before .args .start) (f .before .before .before .before .before .args .len)
+    → Read (wordsOf (f .before .before .before .before .before .args .file .now)) (f .before .before .before .before .before .args .known) (f .before .before .before .before .before .args .start) (f .before .before .before .before .before .args .len)
     (wordsOf (f .before .front .result .now)) (f .row-by .result)
 told f =
     let s = f .before .before .before .before .before .args in
-    read-at (wordsOf (s .file .now)) (s .start) (s .len) (f .before .before .rest .ensures) (f .before .front .ensures) (f .row-by .ensures)
+    read-at (wordsOf (s .file .now)) (s .known) (s .start) (s .len) (f .before .before .rest .ensures) (f .before .front .ensures) (f .row-by .ensures)
 
 returns : tie.Need-returns
 returns c = words-are (finished (begin [] _)) (sym (read-unlisted (told (c .before .before)) (not-true _ (c .if1 .taken))))
@@ -82,7 +82,14 @@ returns-2 c =
     words-are (words-then (wordsIn (slimBy (f .row-by .result) b [])) (take (rawOf b) (drop from ws)) (w .put-slim .ensures) (rw raw at (p .put-words .ensures)))
     (sym (read-listed (told f) (not-false _ (w .before .before .if1 .left))))
 
+-- the words of a part are no more than the file has
+add-result : tie.Need-add-result
+add-result c =
+    let f = c .before .before .before .before .before .before .before .before .before .before .before .before .before in
+    let i = f .before .before .before .before .before .pre .0 in
+    omega (arith, returns-2 c .within, read-short (told f) i, i .short, i .fits, ap rawOf (told f .words))
+
 pub put-part-spec : {M : Type 1} → statement M
 put-part-spec =
     tie.close
-    (tie.spec (λ c κs. search needs) (λ c κs. search needs) (λ c κs. search needs) returns put-slim-requires sub-put-words sub-put-words (λ c. search needs) add-rest (λ c κs. search needs) (λ c κs. search needs) (λ c κs. search needs) put-words-requires (λ c. omega (arith, returns-2 c .within)) (λ c. search needs) returns-2)
+    (tie.spec (λ c κs. search needs) (λ c κs. search needs) (λ c κs. search needs) returns put-slim-requires sub-put-words sub-put-words (λ c. search needs) add-rest (λ c κs. search needs) (λ c κs. search needs) (λ c κs. search needs) put-words-requires add-result (λ c. search needs) returns-2)

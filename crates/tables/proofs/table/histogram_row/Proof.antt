@@ -1,11 +1,10 @@
--- `table::histogram_row` is `row0B`. Assumes nothing.
-use mathlib.Core.Path.{refl}
+-- `table::histogram_row` is its row of the tables. Assumes nothing.
 use borrow.Author.Needs.{needs}
 use Rattle.tables.proofs.table.histogram_row.Statement.{statement}
 use Rattle.tables.proofs.table.histogram_row.Tie as tie
 
 returns : tie.Need-returns
-returns c = refl
+returns c = rw (c .plain .ensures)
 
 pub histogram-row-spec : {M : Type 1} → statement M
-histogram-row-spec = tie.close (tie.spec (λ c. search needs) (λ c. search needs) returns)
+histogram-row-spec = tie.close (tie.spec (λ c. search needs) (λ c. search needs) (λ c κs. search needs) returns)

@@ -1,10 +1,10 @@
--- `table::logger_row` is `row0F`. Assumes nothing.
+-- `table::logger_row` is its row of the tables. Assumes nothing.
 use borrow.Author.Needs.{needs}
 use Rattle.tables.proofs.table.logger_row.Statement.{statement}
 use Rattle.tables.proofs.table.logger_row.Tie as tie
 
 returns : tie.Need-returns
-returns c = rw (c .band-rules .ensures)
+returns c = rw (c .plain .ensures, c .before .band-rules .ensures)
 
 pub logger-row-spec : {M : Type 1} → statement M
-logger-row-spec = tie.close (tie.spec (λ c κs. search needs) (λ c. search needs) returns)
+logger-row-spec = tie.close (tie.spec (λ c κs. search needs) (λ c κs. search needs) (λ c. search needs) returns)

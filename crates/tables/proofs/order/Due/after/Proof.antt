@@ -24,7 +24,7 @@ returns-4 c = rw (c .before .match .keys4) (c .only4 .ensures)
 
 returns-5 : tie.Need-returns-5
 unfolding dueAfter
-returns-5 c = rw (c .before .match .keys5) (c .either .ensures)
+returns-5 c = rw (c .before .match .keys5) (c .after-profiles .ensures)
 
 returns-6 : tie.Need-returns-6
 unfolding dueAfter
@@ -32,11 +32,11 @@ returns-6 c = rw (c .before .match .keys6) (c .after-results .ensures)
 
 returns-7 : tie.Need-returns-7
 unfolding dueAfter
-returns-7 c = rw (c .before .match .keys7) (c .either2 .ensures)
+returns-7 c = rw (c .before .match .keys7) (c .either .ensures)
 
 returns-8 : tie.Need-returns-8
 unfolding dueAfter
-returns-8 c = rw (c .before .match .keys8) (c .either3 .ensures)
+returns-8 c = rw (c .before .match .keys8) (c .either2 .ensures)
 
 returns-9 : tie.Need-returns-9
 unfolding dueAfter
