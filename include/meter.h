@@ -9,7 +9,7 @@
  *    3   length below the table, 0B not exact, long form under 2 or not allowed,
  *        title without null                                                            block start
  *    4   a listed block or the end marker out of order                                 block start
- *    5   unit type                                                                     that word
+ *    5   unit type, neither 945 nor 953                                                that word
  *    6   word 1 of 05, 07, 09, 0E or 10                                                that word
  *    7   sub-block id, length, or past its block                                       sub-block start
  *    8   any other checked word                                                        that word (BuffLength: word 6)
@@ -39,7 +39,7 @@ extern "C" {
 
 typedef struct meter_check_reply {
     uint8_t refusal;    /* 0: accepted */
-    uint8_t function;   /* 1 level meter, 2 1/1 octave, 3 1/3 octave; 0 if refused */
+    uint8_t function;   /* 1 level meter, 2 1/1 octave, 3 1/3 octave (945), 4 dose meter (953); 0 if refused */
     uint16_t starts[9]; /* start words of 01, 02, 03, 04, 05, 07, 0E or 10, 09 and 0F; 65535 for an absent block */
     uint32_t at;        /* the refusal's position; 0 if accepted */
 } meter_check_reply;

@@ -14,11 +14,11 @@ HERE = Path(__file__).resolve().parent
 sys.dont_write_bytecode = True  # a run writes the meter files and no other
 sys.path.insert(0, str(HERE.parent / 'tests'))
 
-from blocks import (BANDS, END, HISTOGRAMS, OFF, ON, SPECTRUM, Block, File, free, histogram, lengthen, logger, packed,
-                    plain, profiles, title)
+from blocks import (BANDS, END, HISTOGRAMS, M953, OFF, ON, SPECTRUM, Block, File, free, histogram, lengthen, logger, packed,
+                    plain, profiles, spectrum_block, title)
 
-METER = 4127  # the number of the 945 in this return
-LIN, A, C = 1, 2, 3  # filters: the same codes in 04 and in 05
+METER, NEWER = 4127, 21077  # the numbers of the 945 and of the 953 in this return
+Z, LIN, A, C = 0, 1, 2, 3  # filters: the same codes in 04 and in 05; Z is a 953's, LIN a 945's
 TOTALS = (A, C, LIN)  # the filters of the three totals of a spectrum
 PEAK, MAX, MIN, RMS = 1, 2, 3, 4  # what a profile buffers
 ABOVE = {PEAK: 105, MAX: 18, MIN: -15, RMS: 0}  # tenths by which each lies above the level of its time step
@@ -39,6 +39,7 @@ ROAD = Place(((0.8, 48), (16, 60), (63, 71), (250, 63), (1000, 64), (4000, 53), 
 PUMP = Place(((0.8, 50), (31.5, 66), (50, 83), (63, 70), (100, 79), (160, 69), (1000, 71), (20000, 47)), 1.5, 0,
              (C, A, LIN))
 YARD = Place(((0.8, 38), (31.5, 50), (100, 47), (1000, 41), (20000, 27)), 5, 0.03)
+SHOP = Place(((0.8, 44), (31.5, 61), (125, 66), (500, 70), (2000, 77), (4000, 79), (8000, 74), (20000, 58)), 5, 0.04, (A, C, Z))
 
 
 # Levels of a place
@@ -57,7 +58,7 @@ def weighting(code, hertz):
     """The filters of IEC 61672, in dB."""
     c = 12194 ** 2 * hertz ** 2 / ((hertz ** 2 + 20.6 ** 2) * (hertz ** 2 + 12194 ** 2))
     a = c * hertz ** 2 / sqrt((hertz ** 2 + 107.7 ** 2) * (hertz ** 2 + 737.9 ** 2))
-    return {LIN: 0, A: 20 * log10(a) + 2.0, C: 20 * log10(c) + 0.06}[code]
+    return {Z: 0, LIN: 0, A: 20 * log10(a) + 2.0, C: 20 * log10(c) + 0.06}[code]
 
 
 def thirds(place, code):
@@ -119,6 +120,13 @@ def results(levels):
                   10, falling[seconds // 10]))
 
 
+def exceeded(levels):
+    """A block 17: L10, L50 and L90, the levels that were exceeded in so many per cent of the time."""
+    falling = [sorted(own, reverse=True) for own in levels]
+    words = [word for n in (10, 50, 90) for word in (n, *(own[len(own) * n // 100] for own in falling))]
+    return free(0x0F17, 0x0307, 3, *words)
+
+
 def statistics(levels, classes):
     """09 and its three 0B; classes: number, bottom and width for each profile, the last two in tenths."""
     blocks = [profiles('09', [at(1, of) for of in classes])]
@@ -164,24 +172,68 @@ def updated(file, levels):
     """The same measurement as firmware 110 writes it: longer records, longer blocks, and a block 17 that is not listed."""
     for kind, more, each in ('01', 2, ()), ('04', 5, ()), ('05', 0, (2, 2, 2)), ('07', 3, (1, 1, 1)):
         file = file.swap(kind, lengthen(file.block(kind), more, each))
-    falling = [sorted(own, reverse=True) for own in levels]
-    words = [word for n in (10, 50, 90) for word in (n, *(own[len(own) * n // 100] for own in falling))]  # L10, L50, L90
-    return file.edit('02', {3: 110}).put('09', free(0x0F17, 0x0307, 3, *words))
+    return file.edit('02', {3: 110}).put('09', exceeded(levels))
 
 
-def of_a_953(place, name, text, seconds, seed):
-    """A level meter file of the other model, by its own manual: 02, 04 and 07 are longer, and results stand elsewhere."""
-    file = result(place, name, text, 1, seconds, seed)
-    records = []
-    for levels, time in zip(histories(place, seconds, seed), (seconds, 0, 0)):  # profile 2 holds the overload time
-        _, _, peak, top, least, spl, leq, _, _, ltm3, ltm5, _, _ = results(levels).values()
-        records.append(at(1, (time, 0, peak, 0, top, least, spl, leq, leq, ltm3, ltm5, 0, 0)))
-    longer = lengthen(profiles('07', records), 0, (1, 1, 1))
-    longer = longer.edit({start + 14: 0 for start in longer.subs})  # no level was under the range
-    unit = file.block('02').resize(10).edit({1: 21077, 2: 953, 3: 604, 6: 1, 8: 604, 9: 1})
-    settings = file.block('04').resize(28).edit({4: 2, 16: 480, 19: 3})
-    filters = profiles('05', [{1: 1, 2: of} for of in (A, C, 0)])  # 0 is Z
-    return file.swap('02', unit).swap('04', settings).swap('05', filters).swap('07', longer)
+# Files of a 953, by its own manual
+
+TRIGGERS = free(0x072B, 0, 0, 1000, 10, 0, 0), free(0x072C, 0, 0, 1000, 0, 1, 1), free(0x0A2E, *[0] * 9)  # all off
+RESERVED = free(0x1321, *[0] * 18)
+CALIBRATED = 12 + 32 * 10 + 512 * 26, (8 * 3600 + 15 * 60) // 2  # on 12 October 2026 at 8:15
+CRITERION, THRESHOLD, RATE = 850, 800, 5  # of the dose meter: two levels in tenths, and the decibels that double the dose
+
+
+def opening_953(place, name, text, function, seconds, code):
+    """The blocks 01 to 05, and before 05 what was set for triggers and outputs. 04 has the manual's 48 words."""
+    settings = {3: function, 4: 2, 5: 2, 7: 1, 8: 3, 9: 1, 10: seconds, 14: code, 16: 480, 20: 1, 27: 1} | at(21, CALIBRATED)
+    dose = {17: CRITERION, 18: THRESHOLD, 19: RATE} if function == 4 else {}
+    return (plain('01', at(1, packed(name.encode('ascii').ljust(8, b'\0')))),
+            plain('02', {1: NEWER, 2: 953, 3: 604, 6: 1, 7: 604, 8: 604, 9: 1}, model=M953),
+            title(text.encode('ascii') + b'\0'),
+            plain('04', settings | dose, model=M953).resize(48),
+            *TRIGGERS,
+            profiles('05', [{1: 1, 2: of} for of in place.filters]))  # detector FAST
+
+
+def dose_average(levels, threshold):
+    """The level that gives the same dose; what is under the threshold gives none."""
+    q = RATE / log10(2)
+    return q * log10(sum(10 ** (level / 10 / q) for level in levels if level >= threshold) / len(levels))
+
+
+def results_953(levels, time, function):
+    """A record of 07: a time, then PEAK, a word without meaning, MAX, MIN, SPL, LEQ, Lden, Ltm3, Ltm5, a dose meter's LAV and
+    TLAV, and that no level was under the range. By day Lden is LEQ."""
+    _, _, peak, top, least, spl, leq, _, _, ltm3, ltm5, _, _ = results(levels).values()
+    averages = [tenths(dose_average(levels, floor)) for floor in (0, THRESHOLD)] if function == 4 else [0, 0]
+    return at(1, (time, 0, peak, 0, top, least, spl, leq, leq, ltm3, ltm5, *averages, 0))
+
+
+def octaves_953(place, code):
+    """0E from 31.5 Hz on, and the lowest and the highest spectrum in blocks 26 and 27."""
+    levels = spectrum(place, 2, code)[5:] + [total(thirds(place, of)) for of in place.filters]
+    for number, above in (0x0E, 0), (0x26, -9), (0x27, 12):
+        block = spectrum_block('0E', M953.bands[2], tuple(tenths(level + above) for level in levels))
+        yield block if above == 0 else free(number + 256 * len(block.words), *block.words[1:])
+
+
+def of_a_953(place, name, text, function, seconds, seed, code=0, classes=None, click=None):
+    """click: a knock at the cable, too short to change the mean: its seconds of overload, PEAK and MAX."""
+    levels = histories(place, seconds, seed)
+    overload, *over = click or (0,)
+    records = [results_953(own, time, function) | dict(zip((3, 5), over)) for own, time in zip(levels, (seconds, overload, 0))]
+    blocks = [*opening_953(place, name, text, function, seconds, code), RESERVED, profiles('07', records, model=M953),
+              exceeded(levels)]
+    if function == 2:
+        blocks += octaves_953(place, code)
+    if classes:
+        blocks += statistics(levels, classes)
+    return File(function, (*blocks, Block('end', (END,))), M953)
+
+
+def of_a_959(place, name, text, seconds, seed):
+    """A level meter file of a third model, which writes much as the 953 does."""
+    return of_a_953(replace(place, filters=(A, C, Z)), name, text, 1, seconds, seed).edit('02', {1: 9035, 2: 959, 3: 310})
 
 
 def files():
@@ -206,8 +258,11 @@ def files():
         'road-02': result(window, 'ROAD02', 'Mill Road, first floor window', 2, 300, 9, A, road),
         'road-03': buffer(ROAD, 'BUFF3', 'Mill Road, kerb', 2, (0, 0, PEAK), 15, 10, LIN, ON),
         'road-04': buffer(ROAD, 'BUFF4', 'Mill Road, crossing', 2, (RMS, MIN, PEAK), 60, 11, LIN, OFF, (0, 500)),
+        'shop-01': of_a_953(SHOP, 'SHOP01', 'Workshop, saw bench', 1, 600, 17, click=(1, 1402, 1124)),
+        'shop-02': of_a_953(louder(SHOP, -11), 'SHOP02', 'Workshop, office door', 2, 600, 18, A, [(120, 200, 10)] * 3),
+        'shop-03': of_a_953(louder(SHOP, -2.5), 'SHOP03', 'Workshop, sawyer', 4, 3600, 19),
         'yard-01': result(YARD, 'YARD01', '', 1, 300, 12),
-        'yard-02': of_a_953(YARD, 'YARD02', 'Yard, gate', 300, 13),
+        'yard-02': of_a_959(YARD, 'YARD02', 'Yard, gate', 300, 13),
     }
 
 

@@ -3,9 +3,9 @@
 from dataclasses import replace
 from itertools import product
 
-from blocks import (END, FREE, HISTOGRAMS, LEAST, OFF, ON, SUB, Block, File, buffer_file, free, grow, histogram,
-                    lengthen, logger, packed, plain, profiles, record_words, result_file, title)
-from pairs import CLASSES, boundaries, data_of, good_files, words_of
+from blocks import (BANDS_LEFT, END, FREE, FREE_953, HISTOGRAMS, LEAST, M945, M953, OFF, ON, Block, File, buffer_file,
+                    file_953, free, grow, histogram, lengthen, logger, packed, plain, profiles, record_words, result_file, title)
+from pairs import CLASSES, boundaries, data_of, good_files, with_bands, words_of
 
 
 def refused(number, position):
@@ -20,13 +20,13 @@ HEADER = plain('01', {})
 
 
 def checked_files():
-    """01, Checked files 1 to 4, 8 and 9; how the first words of a file are judged (docs/DECISIONS.md)."""
+    """01, Checked files 1 to 4, 8 and 9, file 3 as T-01 has it; how the first words of a file are judged (docs/DECISIONS.md)."""
     yield 'case 1, empty', [], refused(2, 0)
     yield 'case 1, one byte', b'\0', refused(1, 0)
     yield 'case 1, FFFF', [END], refused(4, 0)
     yield 'case 2, 0C01 alone', [0x0C01], refused(2, 0)
     yield 'case 2, 0601 and five zeros', [0x0601, 0, 0, 0, 0, 0], refused(3, 0)
-    yield 'case 3, unit type 953', checked_file_3(), refused(5, 14)
+    yield 'case 3, unit type 953', checked_file_3(), refused(3, 12)
     yield 'case 4, 00AA 0001 after 01', words_of(HEADER) + [0x00AA, 1], refused(3, 12)
     assert len(checked_file_8().words()) == 78
     yield accepted('case 8, BUFF1', checked_file_8())
@@ -146,20 +146,20 @@ def buffer_lengths():
     yield accepted('milliseconds over 999', two.edit('0F', {1: 0xFFFF, 2: 0xFFFF}))
 
 
-def sub_blocks():
+def sub_blocks(model=M945):
     """A sub-block may end exactly where its block does, not one word past; the next may not start there."""
-    file = result_file(1, CLASSES)
-    for kind, (number, _) in SUB.items():
+    file = result_file(1, CLASSES, model=model)
+    for kind, (number, _) in model.subs.items():
         start, block = file.start(kind), file.block(kind)
         for k, at in enumerate(block.subs, 1):
-            longest = lengthen(block, 0, tuple((255 - LEAST[kind]) * (i == k) for i in (1, 2, 3)))
+            longest = lengthen(block, 0, tuple((255 - model.least[kind]) * (i == k) for i in (1, 2, 3)))
             yield accepted(f'{kind} of 255 words, all in sub-block {k}', file.swap(kind, longest))
             passes = longest.edit({longest.subs[2]: longest.words[longest.subs[2]] + 256})
             yield f'{kind} of 255 words, sub-block 3 one word past it, {k} longest', \
                 file.swap(kind, passes).words(), refused(7, start + passes.subs[2])
             yield f'{kind}, sub-block {k} of 255 words', file.edit(kind, {at: number + 0xFF00}).words(), \
                 refused(7, start + at)
-        longest = lengthen(block, 255 - LEAST[kind])
+        longest = lengthen(block, 255 - model.least[kind])
         yield accepted(f'{kind} of 255 words, all behind its sub-blocks', file.swap(kind, longest))
         # The second reaches to the block's end; the block behind looks like the third, but it is not in the block.
         other = block.edit({block.subs[1]: number + 256 * (len(block.words) - block.subs[1])})
@@ -205,10 +205,126 @@ def sizes():
     yield accepted('65536 bytes, an unlisted block', one.put('0F', pad.edit({1: room}).cut(room)))
 
 
+def unit_types():
+    """T-01: an 02 under 6 words is 3, then a unit type that is neither is 5, then a 953's 02 under 10 words 3."""
+    short, neither = refused(3, 12), refused(5, 14)
+    for length, of_945, of_953, of_954 in (
+            (3, short, short, short), (5, short, short, short), (6, refused(2, 18), short, neither),
+            (7, refused(2, 19), short, neither), (9, refused(2, 21), short, neither),
+            (10, refused(2, 22), refused(2, 22), neither)):
+        for unit, line in (945, of_945), (953, of_953), (954, of_954):
+            block = Block('02', (0x02 + 256 * length, 0, unit) + (0,) * 7).cut(length)
+            yield f'01 and then an 02 of {length} words, {unit}', words_of(HEADER, block), line
+
+
+def as_a(model, file):
+    """The same blocks with this model's number in 02."""
+    return replace(file, model=model).edit('02', {2: model.unit})
+
+
+def other_model():
+    """A good file with the other model's number in 02 fails at the first row that differs."""
+    for function, place in (1, '05'), (2, '04, word 14'), (3, '04, word 3'):
+        file = result_file(function, CLASSES).edit('04', {14: 1})
+        yield f'function {function}, 953 in a 945\'s 02', as_a(M953, file).words(), refused(3, file.start('02'))
+        file = file.swap('02', lengthen(file.block('02'), 4))
+        yield f'function {function}, 953 in a 945\'s 02 of 10 words', as_a(M953, file).words(), refused(3, file.start('04'))
+        file = file.swap('04', lengthen(file.block('04'), 5))
+        at = {'05': file.start('05') + file.block('05').subs[2] + 2, '04, word 14': file.start('04') + 14,
+              '04, word 3': file.start('04') + 3}[place]
+        yield f'function {function}, 953 in a 945\'s 02 of 10 words, 04 of 28', as_a(M953, file).words(), refused(8, at)
+    for function in 1, 2, 4:
+        file = file_953(function, CLASSES)
+        at = file.start('04') + 3 if function == 4 else file.start('05') + file.block('05').subs[2] + 2
+        yield f'function {function}, 945 in a 953\'s 02', as_a(M945, file).words(), refused(8, at)
+    yield 'a second 02, of a 945, in a 953', file_953(1).put('03', result_file(1).block('02')).words(), refused(4, 22)
+    yield 'a second 02, of a 953, in a 945', result_file(1).put('03', file_953(1).block('02')).words(), refused(4, 18)
+
+
+def both_models():
+    """Blocks of a 953 with filters and octaves that both have: with a 945's number they are longer blocks and records of it."""
+    file = file_953(1, CLASSES, filters=(2, 3, 2))
+    yield accepted('a 945 with longer records, the blocks of a 953', as_a(M945, file))
+    yield accepted('a 953 with these blocks', file)
+    file = file_953(2, CLASSES, filters=(2, 3, 2), bands=(100, 15, 3))
+    yield accepted('a 945 with longer records and 1/1 octaves, the blocks of a 953', as_a(M945, file))
+    yield accepted('a 953 with these blocks and 1/1 octaves', file)
+    short = file.swap('07', result_file(2).block('07'))
+    yield accepted('a 945 with an 07 of 44 words', as_a(M945, short))
+    yield 'a 953 with an 07 of 44 words', short.words(), refused(3, short.start('07'))
+    longer = file.swap('07', lengthen(result_file(2).block('07'), 3))
+    yield accepted('a 945 with an 07 of 47 words, records of 14', as_a(M945, longer))
+    yield 'a 953 with an 07 of 47 words, records of 14', longer.words(), refused(7, longer.start('07') + 2)
+    ten = file_953(2, CLASSES, filters=(2, 3, 2))
+    ten = as_a(M945, ten.swap('0E', ten.block('0E').resize(23)))
+    yield 'a 945 with 10 octaves from 31.5 Hz', ten.words(), refused(8, ten.start('0E') + 2)
+
+
+def other_words():
+    """The model is in word 2 of 02 and in no other."""
+    for offset in 1, 3, 4, 5, 6, 7, 8, 9:
+        yield accepted(f'a 953 with 945 in word {offset} of 02', file_953(4, CLASSES).edit('02', {offset: 945}))
+    for offset in 1, 3, 4, 5:
+        yield accepted(f'a 945 with 953 in word {offset} of 02', result_file(3, CLASSES).edit('02', {offset: 953}))
+
+
+def octaves_953():
+    """A 953's 0E is as long as its own words 3 and 4 have it, or longer; then comes 09 or the end marker."""
+    for bands in (3150, 10, 3), (100, 15, 3), (100, 15, 0), (100, 1, 0), (50000, 6, 3), (50000, 1, 0), (1600, 11, 1):
+        file = with_bands(file_953(2, CLASSES), bands)
+        whole = len(file.block('0E').words)
+        for length in sorted({whole - 1, whole, whole + 1, 255}):
+            other = file.swap('0E', file.block('0E').resize(length))
+            line = refused(3, file.start('0E')) if length < whole else other.accepted()
+            yield f'0E of {length} words for {bands}', other.words(), line
+    for bands in (3150, 10, 3), (100, 15, 3):
+        file = with_bands(file_953(2), bands)
+        full = file.edit('0E', {i: END for i in range(5, 23)})
+        yield accepted(f'levels all FFFF for {bands}', full)
+        yield accepted(f'one band less than levels for {bands}', full.edit('0E', {3: bands[1] - 1}))
+        short = full.swap('0E', full.block('0E').resize(4 + bands[1] + bands[2]))  # the end marker is no level of it
+        yield f'a level short, and FFFF behind, for {bands}', short.words(), refused(3, file.start('0E'))
+
+
+def no_buffer_953():
+    """0F is listed and never due in a 953, whatever is in it."""
+    end, contents = Block('end', (END,)), Block('contents', (1, 2, 3, 4))
+    for function in 1, 2, 4:
+        file = file_953(function)
+        for name, blocks in ('no contents', (logger(0),)), ('contents', (logger(8), contents)), \
+                ('words of 0', (free(0x080F, *[0] * 7),)), ('one word', (free(0x010F),)):
+            yield f'0F in the place of 07, {name}, function {function}', file.before('07').and_then(*blocks, end).words(), \
+                refused(4, file.start('07'))
+        yield f'0F behind all, function {function}', file.put('end', logger(0)).words(), refused(4, file.start('end'))
+
+
+def as_in_a_945():
+    """What holds for any model, in a 953: exact histograms, titles, FFFF within blocks, unlisted blocks, sub-blocks."""
+    for numbers in (0, 0, 0), (0, 2, 1), (150, 7, 30):
+        yield accepted(f'classes {numbers}', file_953(4, numbers))
+    file = file_953(4, (0, 0, 0))
+    for kind, sub in zip(HISTOGRAMS, file.block('09').subs):
+        yield f'32768 classes, {kind} of 2 words', file.edit('09', {sub + 1: 32768}).words(), refused(3, file.start(kind))
+    for name, text in ('null first', b'\0A'), ('FFFF behind its null', b'A\0\xff\xff'), ('255 words', b'T' * 507 + b'\0'):
+        yield accepted(f'title, {name}', file_953(4).swap('03', title(text)))
+    yield 'title AB', file_953(4).swap('03', title(b'AB')).words(), refused(3, 22)
+    listed = {int(kind, 16) for kind in LEAST} | {0x0B, 0x14}
+    others = [free(0x0300 + number, END, number) for number in range(256) if number not in listed]
+    for function in 1, 2, 4:
+        full = file_953(function, CLASSES, fill=END)
+        full = full.edit('07', {at + i: END for at in full.block('07').subs for i in range(1, 15)})
+        yield accepted(f'levels all FFFF, function {function}', full)
+        yield accepted(f'every unlisted id, function {function}', file_953(function).put('end', *others))
+    yield from sub_blocks(M953)
+
+
 def hard_cases():
     for maker in checked_files, spectra_and_titles, classes, end_markers, buffer_lengths, sub_blocks, lengths, sizes:
         for name, words, line in maker():
             yield name, data_of(words), line
+    for maker in unit_types, other_model, both_models, other_words, octaves_953, no_buffer_953, as_in_a_945:
+        for name, words, line in maker():
+            yield f'953, {name}', data_of(words), line
 
 
 def kinds_of_files():
@@ -280,7 +396,84 @@ def additions():
                 yield accepted(f'unlisted block, {name}, after {stage}', longer)
 
 
+def kinds_953():
+    """Functions 1, 2 and 4 of a 953, with and without statistics."""
+    for function, numbers, fill in product((1, 2, 4), (None, CLASSES), (0, 1, 0x0C01, 0xFFFF)):
+        file = file_953(function, numbers, fill=fill)
+        name = f'function {function}, {"statistics" if numbers else "no statistics"}, free words {fill:04X}'
+        yield accepted(name, file)
+        if not fill:
+            yield accepted(f'{name}, grown', grow(file))
+
+
+def unchecked_953():
+    """04's words 14 and 15 with functions 1 and 4, and words 21 and 22 (a calibration's date and time) with any."""
+    for function in 1, 2, 4:
+        file = file_953(function)
+        for offset in (21, 22) if function == 2 else (14, 15, 21, 22):
+            for word in 1, 2, 4, 0x0102, END:
+                yield accepted(f'04, word {offset} is {word:04X}, function {function}', file.edit('04', {offset: word}))
+
+
+def values_953():
+    """Every value that the tables of a 953 allow: filters, buffering and codes; lowest frequencies, bands and totals of 0E."""
+    for filter_, buffering in product((0, 2, 3), (0, 1)):
+        file = file_953(2).edit('04', {14: filter_, 15: buffering})
+        yield accepted(f'filter {filter_}, buffering {buffering}', file)
+    for k in 0, 1, 2:
+        for value in 0, 2, 3:
+            filters = [2, 2, 2]
+            filters[k] = value
+            yield accepted(f'profile {k + 1}, filter {value}', file_953(4, filters=filters))
+        for value in range(16):
+            codes = [8, 8, 8]
+            codes[k] = value
+            yield accepted(f'profile {k + 1}, buffer code {value}', file_953(1, codes=codes))
+    for lowest, left in BANDS_LEFT.items():
+        for bands, totals in product((1, left), (0, 1, 2, 3)):
+            yield accepted(f'0E from {lowest}, {bands} bands, {totals} totals', file_953(2, bands=(lowest, bands, totals)))
+    for bands in range(2, 15):
+        yield accepted(f'0E from 100, {bands} bands, 3 totals', file_953(2, CLASSES, bands=(100, bands, 3)))
+
+
+def additions_953():
+    """Demand 3 in a 953, one at a time; and what it writes itself that is not listed."""
+    lean = good_files(M953)[0]
+    for kind in M953.least:
+        file = lean['octave' if kind == '0E' else 'dose']
+        block = file.block(kind)
+        for more in 1, 255 - len(block.words):
+            yield accepted(f'{kind} lengthened by {more}', file.swap(kind, lengthen(block, more)))
+        for k in 1, 2, 3:
+            if block.subs:
+                longer = lengthen(block, 0, tuple(int(i == k) for i in (1, 2, 3)))
+                yield accepted(f'{kind}, sub-block {k} lengthened', file.swap(kind, longer))
+    longest = lean['octave']
+    for kind in ('02', '03', '04', '05', '07', '0E', '09'):
+        longest = longest.swap(kind, lengthen(longest.block(kind), 255 - len(longest.block(kind).words)))
+    yield accepted('every table block of 255 words', longest)
+    for stage, _, file, i in boundaries(lean):
+        for name, blocks in *((name, (block,)) for name, block in FREE.items()), ('those of a 953', FREE_953.values()):
+            longer = replace(file, blocks=(*file.blocks[:i], *blocks, *file.blocks[i:]))
+            yield accepted(f'unlisted block, {name}, after {stage}', longer)
+    for name, block in FREE_953.items():
+        yield accepted(f'block {name} before 05', lean['octave'].put('05', block))
+    for name, file in lean.items():
+        yield accepted(f'{name}, as a 953 writes it', written(file))
+
+
+def written(file):
+    """With the blocks of tables B.1.5 to B.1.7, B.1.9, B.1.11 and B.1.17 where the manual has them."""
+    file = file.put('05', *(FREE_953[name] for name in ('2B', '2C', '2E'))).put('07', FREE_953['21'])
+    if file.function == 2:
+        return file.put('0E', FREE_953['17']).put('09', FREE_953['26'], FREE_953['27'])
+    return file.put('09', FREE_953['17'])
+
+
 def good_cases():
     for maker in kinds_of_files, unchecked_words, values, additions:
         for name, words, line in maker():
             yield name, data_of(words), line
+    for maker in kinds_953, unchecked_953, values_953, additions_953:
+        for name, words, line in maker():
+            yield f'953, {name}', data_of(words), line

@@ -11,8 +11,8 @@ from pathlib import Path
 
 sys.dont_write_bytecode = True  # before the modules beside this one: a run writes its own files and no other
 
-from blocks import END, OFF, SUB, buffer_file, free, lengthen, result_file, title
-from cases import checked_file_3, checked_file_8, checked_file_9, good_cases, hard_cases
+from blocks import END, M953, OFF, SUB, buffer_file, file_953, free, lengthen, result_file, title
+from cases import checked_file_3, checked_file_8, checked_file_9, good_cases, hard_cases, written
 from desk import write_desk, write_tries
 from pairs import CLASSES, data_of, good_files, pairs
 from sheets import answer, asks
@@ -21,6 +21,7 @@ from two_faults import two_faults
 TESTS = Path(__file__).resolve().parent
 CRATES = TESTS.parent / 'crates'
 NUMBERS = range(1, 10)
+KEPT = {f'pair-05-unit-type-954-{name}' for name in ('level', 'buffer-1', 'level-grown', 'buffer-1-grown')}
 
 
 def name_of(*parts):
@@ -28,9 +29,14 @@ def name_of(*parts):
     return re.sub('[^a-z0-9]+', '-', ' '.join(parts).lower()).strip('-')
 
 
+def kept(name):
+    """Four files have the names that they had before 953 was a unit type; now it is 954 that they have."""
+    return name.replace('954', '953') if name in KEPT else name
+
+
 def numbered(prefix, makers):
     """(number, place, name, bytes, line) by rising numbers."""
-    rows = [(number, place, name_of(prefix, f'{number:02}', place), data, f'refused {number} at {position}')
+    rows = [(number, place, kept(name_of(prefix, f'{number:02}', place)), data, f'refused {number} at {position}')
             for number, place, data, position in makers]
     return sorted(rows, key=lambda row: row[0])
 
@@ -116,6 +122,23 @@ def kinds_of_files():
     file = buffer_file(1, records=0)
     room = 32768 - len(file.words())
     yield '65536 bytes', file.put('0F', free(0x0099, room, *[0] * (room - 2)))
+    yield from ((f'953, {name}', file) for name, file in kinds_of_953())
+
+
+def kinds_of_953():
+    """The same for a 953, and spectra with other counts."""
+    lean, grown = good_files(M953)
+    yield from lean.items()
+    yield from ((f'{name}, grown', file) for name, file in grown.items())
+    for name, file in lean.items():
+        yield f'{name}, no statistics', file_953(file.function)
+        yield f'{name}, free words FFFF', file_953(file.function, CLASSES, fill=END)
+        yield f'{name}, as it is written', written(file)
+    for bands in (100, 15, 3), (100, 1, 0), (50000, 6, 1):
+        yield f'0E for {bands}', file_953(2, CLASSES, bands=bands)
+    for name, kind in ('dose', '02'), ('octave', '0E'), ('dose', '07'):
+        block = lean[name].block(kind)
+        yield f'{kind} of 255 words', lean[name].swap(kind, lengthen(block, 255 - len(block.words)))
 
 
 def added_counts(data, line):
@@ -152,11 +175,11 @@ def write_checked_files():
     sheet8 = b'unit=945\nnumber=1234\nversion=105\nname=BUFF1\nfunction=1\ntitle=Hall\n' \
              b'ms,P1 RMS A,P3 PEAK Lin\n0,63.4,70.1\n1000,-0.5,69.8\n'
     write_run('sheet', file8, sheet8)
-    write_run('sheet_refused', file3, b'refused 5 at 14\n')
+    write_run('sheet_refused', file3, b'refused 3 at 12\n')
     write_run('sheet_label', data_of(checked_file_9().swap('03', title(b'\0\0')).words()),
               sheet8.replace(b'Hall', b'Order 17, north end'))
     write_run('slim', file9, file8)
-    write_run('slim_refused', file3, b'refused 5 at 14\n')
+    write_run('slim_refused', file3, b'refused 3 at 12\n')
     write_run('title', file8, b'Hall')
     write_run('title_label', file3, b'Order 17, north end')
     write_run('slim_rooms', file9, b''.join(room_answer(file8, room) for room in range(161)))
@@ -185,8 +208,8 @@ def write_table(ones, twos, hard, good, kinds):
     faults = [[[str(row[0]), row[1], f'`{row[2]}`', row[4]] for row in rows] for rows in (ones, twos)]
     cases = [[[row[0], f'`{row[1]}`', row[3]] for row in rows] for rows in (hard, good)]
     text = ['# Pairs of refusal number and place', '', 'Made by `python3 tests/make.py`; do not edit.', '',
-            'Each file of the pack by what decides it; "grown" is the same fault in a file with additions of demand 3.',
-            '', '## Files by number', '', *table(['number', *kinds], by_number),
+            'Each file of the pack by what decides it; "grown" is the same fault in a file with additions of demand 3, "953" in '
+            'a file of that model.', '', '## Files by number', '', *table(['number', *kinds], by_number),
             '## Pairs', '', *table(head, faults[0]),
             '## Two faults, where the first decides', '', *table(head, faults[1]),
             '## Hard cases', '', *table(['case', 'file', 'expected'], cases[0]),

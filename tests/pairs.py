@@ -1,4 +1,4 @@
-"""A file for each pair of a refusal number and a place where document 01 gives it.
+"""A file for each pair of a refusal number and a place where document 01, or for a 953 request T-01 of document 02, gives it.
 
 Each function makes files of one number: it puts a fault into a good file and yields the place in words, the words of
 the file (or its bytes), and the position that 01's table of refusal numbers states for that fault.
@@ -6,18 +6,35 @@ the file (or its bytes), and the position that 01's table of refusal numbers sta
 
 from struct import pack
 
-from blocks import (BANDS, END, FREE, HISTOGRAMS, LEAST, LISTED, OFF, SPECTRUM, SUB, WORD_1, Block, buffer_file, free,
-                    grow, result_file, title)
+from blocks import (BANDS, BANDS_LEFT, END, FREE, HISTOGRAMS, LISTED, M945, M953, MODELS, OFF, SPECTRUM, WORD_1, Block,
+                    buffer_file, free, grow, result_file, spectrum_block, title)
 
 CLASSES = (3, 1, 2)
+# Words that are not allowed: 04's function; for a spectrum its filter and buffering; filter and buffer code of a profile in 05.
+WRONG = {945: {'function': {3: (0, 4, 0x0101, 0xFFFF)}, 'spectrum': {21: (4, 0x0100, 0xFFFF), 22: (2, 0x0100, 0xFFFF)},
+               'profile': {2: (0, 5, 0x0101, 0xFFFF), 3: (5, 0x0100, 0xFFFF)}},
+         953: {'function': {3: (0, 3, 5, 0x0101, 0xFFFF)},
+               'spectrum': {14: (1, 4, 0x0102, 0xFFFF), 15: (2, 0x0101, 0xFFFF)},
+               'profile': {2: (1, 4, 0x0102, 0xFFFF), 3: (16, 0x0100, 0xFFFF)}}}
 
 
-def good_files():
+def good_files(model=M945):
     """A good file of each kind, and each with the additions of demand 3."""
-    lean = {'level': result_file(1, CLASSES), 'octave': result_file(2, CLASSES), 'third': result_file(3, CLASSES),
-            'buffer 1': buffer_file(1), 'buffer 2': buffer_file(2), 'buffer 3': buffer_file(3),
-            'empty buffer': buffer_file(2, records=0)}
+    lean = {name: result_file(function, CLASSES, model=model) for name, function in model.functions.items()}
+    if model == M945:
+        lean |= {'buffer 1': buffer_file(1), 'buffer 2': buffer_file(2), 'buffer 3': buffer_file(3),
+                 'empty buffer': buffer_file(2, records=0)}
     return lean, {name: grow(file) for name, file in lean.items()}
+
+
+def variants(model):
+    """(good files, what the names of their places end with)."""
+    for files, grown in zip(good_files(model), ('', ', grown')):
+        yield files, ('' if model == M945 else f', {model.unit}') + grown
+
+
+def model_of(files):
+    return files['level'].model
 
 
 def home(files, kind):
@@ -25,7 +42,11 @@ def home(files, kind):
     return files[{'0E': 'octave', '10': 'third', '0F': 'buffer 1', 'contents': 'buffer 1'}.get(kind, 'level')]
 
 
-def stages():
+def stages(model):
+    return stages_945() if model == M945 else stages_953()
+
+
+def stages_945():
     """(file, block in front, kinds due behind it), by the order that 01 states in Walking the blocks."""
     yield 'level', None, ('01',)
     for kind, due in zip(('01', '02', '03', '04'), ('02', '03', '04', '05')):
@@ -41,15 +62,28 @@ def stages():
         yield name, 'contents', ('end',)
 
 
+def stages_953():
+    """The same for a 953, from where the model is known: function 4 has the order of 1, and neither 10 nor 0F is ever due."""
+    for kind, due in zip(('02', '03', '04'), ('03', '04', '05')):
+        yield 'level', kind, (due,)
+    for name in M953.functions:
+        yield name, '05', ('07',)
+        yield name, '07', ('0E',) if name == 'octave' else ('09', 'end')
+        for kind, due in zip(('09', *HISTOGRAMS), (*HISTOGRAMS, 'end')):
+            yield name, kind, (due,)
+    yield 'octave', '0E', ('09', 'end')
+
+
 def boundaries(files):
     """(stage, kinds due, file, number of blocks before it) for every stage."""
-    for name, kind, due in stages():
+    model = model_of(files)
+    for name, kind, due in stages(model):
         file = files[name]
         i = file.index(kind) + 1 if kind else 0
         while file.blocks[i].kind == 'free':
             i += 1
         stage = {None: 'start', 'contents': f'0F and contents, {name}'}.get(kind, kind)
-        if kind == '07':
+        if kind == '07' or model == M953 and kind not in ('02', '03', '04'):
             stage += f', function {file.function}'
         yield stage, due, file, i
 
@@ -81,7 +115,7 @@ def number_2_short(files):
     for name, block in FREE.items():
         before = files['level'].before('04').and_then(block)
         yield f'words run out after an unlisted block, {name}', before.words(), len(before.words())
-    for kind in LISTED:
+    for kind in model_of(files).listed():
         file = home(files, kind)
         block, before = file.block(kind), file.before(kind)
         form = 'long form' if kind in HISTOGRAMS else 'short form'
@@ -92,7 +126,7 @@ def number_2_short(files):
 
 def number_2_long(files):
     """No length word, or a length in word 1 that passes the last word: the block's start."""
-    for kind in LISTED:
+    for kind in model_of(files).listed():
         file = home(files, kind)
         block, before = file.block(kind), file.before(kind)
         if kind not in HISTOGRAMS:
@@ -122,7 +156,7 @@ def number_2_contents(files):
 
 def number_3_long(files):
     """Long form under 2, and long form where it is not allowed (every listed id but 0B): the block's start."""
-    for kind in LISTED:
+    for kind in model_of(files).listed():
         file = home(files, kind)
         block = file.block(kind)
         for length in 0, 1:
@@ -143,12 +177,13 @@ def number_3_long(files):
 
 def number_3_short(files):
     """Length below the table, 0B not exact, title without null: the block's start."""
-    for kind, least in LEAST.items():
+    model = model_of(files)
+    for kind, least in model.least.items():
         file = home(files, kind)
         for length in sorted({least - 1, 1}):
             yield f'{kind} of {length} words, least {least}', \
                 file.swap(kind, file.block(kind).resize(length)).words(), file.start(kind)
-    for name in 'level', 'octave', 'third':
+    for name in model.functions:
         for kind, classes in zip(HISTOGRAMS, CLASSES):
             file = files[name]
             for length in 2 * classes, 2 * classes + 1, 2 * classes + 3, 2 * classes + 4:
@@ -161,10 +196,29 @@ def number_3_short(files):
         file.start('03')
 
 
+def with_bands(file, bands):
+    """A file with another 0E, as long as its words 3 and 4 have it."""
+    return file.swap('0E', spectrum_block('0E', bands, (601,) * (bands[1] + bands[2])))
+
+
+def number_3_later(files):
+    """A 953's 02 under 10 words, and its 0E under 5 plus both counts, tested behind words of theirs: the block's start."""
+    file = files['dose']
+    for length in 5, 6, 7, 8, 9:
+        yield f'02 of {length} words, dose', file.swap('02', file.block('02').resize(length)).words(), file.start('02')
+    for bands in (3150, 10, 3), (3150, 1, 0), (3150, 1, 1), (100, 15, 3), (100, 15, 0), (50000, 6, 2), (50000, 1, 3):
+        file = with_bands(files['octave'], bands)
+        whole = 5 + bands[1] + bands[2]
+        for length in sorted({5, 5 + bands[1], whole - 1} - {whole}):
+            yield f'0E of {length} words for {bands}', file.swap('0E', file.block('0E').resize(length)).words(), \
+                file.start('0E')
+
+
 def wrong_blocks(files):
-    """A block of every kind, well formed, to be put where it is not due."""
+    """A block of every kind, well formed, to be put where it is not due. Those that a 953 never has are a 945's."""
+    due, others = model_of(files).listed(), good_files()[0]
     for kind in LISTED:
-        file = home(files, kind)
+        file = home(files if kind in due else others, kind)
         blocks = (file.block(kind), file.block('contents')) if kind == '0F' else (file.block(kind),)
         yield kind, blocks
     for nn in 0x00, 0x03, 0x05, 0x08:
@@ -181,8 +235,8 @@ def number_4(files):
                 yield f'{kind} after {stage}', before + words_of(*blocks) + [END], len(before)
         if 'end' not in due:
             yield f'end as the last word after {stage}', before + [END], len(before)
-    # 01 stands at word 0: after an unlisted block there nothing listed is due, the 01 too.
-    for name, block in FREE.items():
+    # 01 stands at word 0: after an unlisted block there nothing listed is due, the 01 too. No model is known there.
+    for name, block in FREE.items() if model_of(files) == M945 else ():
         behind = words_of(*files['level'].blocks)
         yield f'a whole file after an unlisted block at word 0, {name}', words_of(block) + behind, len(block.words)
         for kind, blocks in wrong_blocks(files):
@@ -193,13 +247,26 @@ def number_4(files):
 def number_5(files):
     """Unit type: that word. 945 is 03B1."""
     for name in 'level', 'buffer 1':
-        for unit in 944, 946, 953, 0, 0xB103, 0x00B1, 0xFFFF:
+        for unit in 944, 946, 954, 0, 0xB103, 0x00B1, 0xFFFF:
             yield f'unit type {unit}, {name}', files[name].edit('02', {2: unit}).words(), files[name].start('02') + 2
+
+
+def number_5_953(files):
+    """953 is 03B9. An 02 that is too short for a 953 is long enough for the unit type."""
+    for name in 'level', 'dose':
+        file = files[name]
+        for unit in 952, 954, 0, 0xB903, 0x00B9, 0xFFFF:
+            yield f'unit type {unit}, {name}', file.edit('02', {2: unit}).words(), file.start('02') + 2
+        for length in 6, 9:
+            short = file.block('02').resize(length).edit({2: 954})
+            yield f'unit type 954 in an 02 of {length} words, {name}', file.swap('02', short).words(), \
+                file.start('02') + 2
 
 
 def number_6(files):
     """Word 1 of 05, 07, 09, 0E or 10: that word. 05 and 07 have 0307, 09 has 0703, 0E and 10 have 0101."""
-    for kind, right in WORD_1.items():
+    for kind in (kind for kind in WORD_1 if kind in model_of(files).least):
+        right = WORD_1[kind]
         for wrong in sorted({0, right - 1, right + 1, right ^ 0x0100, 0x0307, 0x0703, 0x0101, 0xFFFF} - {right}):
             file = home(files, kind)
             yield f'word 1 of {kind} is {wrong:04X}', file.edit(kind, {1: wrong}).words(), file.start(kind) + 1
@@ -207,7 +274,7 @@ def number_6(files):
 
 def number_7(files):
     """Sub-block id, length, or past its block: the sub-block's start."""
-    for kind, (number, least) in SUB.items():
+    for kind, (number, least) in model_of(files).subs.items():
         file = home(files, kind)
         block = file.block(kind)
         start, size = file.start(kind), len(block.words)
@@ -228,19 +295,19 @@ def number_7(files):
 
 
 def number_8_settings(files):
-    """Any other checked word: that word. 04's words 3, 21, 22; filter and buffer code of each profile in 05."""
+    """Any other checked word: that word. 04's words 3, 21, 22, of a 953 3, 14, 15; filter and buffer code of each profile in 05."""
+    model = model_of(files)
+    words_of_04, words_of_05 = WRONG[model.unit]['function'], WRONG[model.unit]['profile']
     for name, file in files.items():
-        wrong = {3: (0, 4, 0x0101, 0xFFFF)}
-        if file.function > 1:
-            wrong |= {21: (4, 0x0100, 0xFFFF), 22: (2, 0x0100, 0xFFFF)}
+        wrong = words_of_04 | (WRONG[model.unit]['spectrum'] if file.function in SPECTRUM else {})
         for offset, words in wrong.items():
             for word in words:
                 yield f'04, word {offset} is {word:04X}, {name}', file.edit('04', {offset: word}).words(), \
                     file.start('04') + offset
-    for name in 'level', 'buffer 2':
+    for name in 'level', 'buffer 2' if model == M945 else 'dose':
         file = files[name]
         for k, at in enumerate(file.block('05').subs, 1):
-            for offset, words in (2, (0, 5, 0x0101, 0xFFFF)), (3, (5, 0x0100, 0xFFFF)):
+            for offset, words in words_of_05.items():
                 for word in words:
                     yield f'05, sub-block {k}, offset {offset} is {word:04X}, {name}', \
                         file.edit('05', {at + offset: word}).words(), file.start('05') + at + offset
@@ -259,6 +326,25 @@ def number_8_bands(files):
     file = files['empty buffer']
     for i in range(3):
         yield f'0F, word {3 + i} is 0, empty buffer', file.edit('0F', {3 + i: 0}).words(), file.start('0F') + 3 + i
+
+
+def number_8_octaves(files):
+    """A 953's 0E: word 2 off the list of 1/1 octaves, word 3 not 1 to the bands left from there, word 4 over 3: that word."""
+    file = files['octave']
+    start = file.start('0E')
+    # Beside the list; of the 1/3 octaves; whole hertz; and 1000 Hz and more in hundredths, less 65,536 as often as it goes.
+    wrong = 0, 1, 99, 101, 3149, 3151, 50001, 0xFFFF, 80, 125, 2500, 4000, 2, 16, 63, 250, 500, 1000, 2000, 16000
+    for word in *wrong, 34464, 3392, 6784, 13568, 27136:
+        yield f'0E, word 2 is {word}', file.edit('0E', {2: word}).words(), start + 2
+    for lowest, left in BANDS_LEFT.items():
+        for bands in 0, left + 1:
+            yield f'0E, word 3 is {bands}, word 2 is {lowest}', with_bands(file, (lowest, bands, 3)).words(), start + 3
+    for word in 15, 0x010A, 0x8001, 0xFFFF:
+        yield f'0E, word 3 is {word}', file.edit('0E', {3: word}).words(), start + 3
+    for totals in 4, 5, 18:
+        yield f'0E, word 4 is {totals}', with_bands(file, (3150, 10, totals)).words(), start + 4
+    for word in 0x0103, 0xFFFF:
+        yield f'0E, word 4 is {word}', file.edit('0E', {4: word}).words(), start + 4
 
 
 def number_8_length(files):
@@ -288,15 +374,23 @@ def number_9(files):
         yield f'the file once more after the end marker, {name}', 2 * file.words(), len(file.words())
 
 
+def makers(model):
+    """By rising numbers. Buffer files are a 945's; an 02 and an 0E with two least lengths, and its counts, are a 953's."""
+    if model == M945:
+        return (number_1, number_2_short, number_2_long, number_2_contents, number_3_long, number_3_short, number_4,
+                number_5, number_6, number_7, number_8_settings, number_8_bands, number_8_length, number_9)
+    return (number_1, number_2_short, number_2_long, number_3_long, number_3_short, number_3_later, number_4,
+            number_5_953, number_6, number_7, number_8_settings, number_8_octaves, number_9)
+
+
 def pairs():
-    """(number, place, bytes, position) of every pair, by numbers."""
-    makers = (number_1, number_2_short, number_2_long, number_2_contents, number_3_long, number_3_short, number_4,
-              number_5, number_6, number_7, number_8_settings, number_8_bands, number_8_length, number_9)
-    for maker in makers:
-        seen = set()
-        for files, name in zip(good_files(), ('', ', grown')):
-            for place, words, position in maker(files):
-                data = data_of(words)
-                if data not in seen:  # a few do not depend on the file
-                    seen.add(data)
-                    yield int(maker.__name__[7]), place + name, data, position
+    """(number, place, bytes, position) of every pair, by models and numbers."""
+    seen = set()
+    for model in MODELS:
+        for maker in makers(model):
+            for files, name in variants(model):
+                for place, words, position in maker(files):
+                    data = data_of(words)
+                    if (maker, data) not in seen:  # a few do not depend on the file, or on the model
+                        seen.add((maker, data))
+                        yield int(maker.__name__[7]), place + name, data, position

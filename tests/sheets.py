@@ -1,14 +1,20 @@
 """Sheets at the ends of their ranges, each made beside its file: no sheet is computed by reading a file."""
 
-from blocks import BANDS, END, HISTOGRAMS, ON, Block, File, histogram, logger, opening, profiles, title
+from blocks import (BANDS, END, HISTOGRAMS, M945, M953, ON, Block, File, file_953, histogram, logger, opening, profiles,
+                    spectrum_block, title)
+
+# T-01: the rows of a 953's results by their offsets in a sub-block; a dose meter has two more.
+ROWS_953 = {'PEAK': 3, 'MAX': 5, 'MIN': 6, 'SPL': 7, 'LEQ': 8, 'Lden': 9, 'Ltm3': 10, 'Ltm5': 11}
+DOSE_ROWS = ROWS_953 | {'LAV': 12, 'TLAV': 13}
 
 
 def tenths(n):
     return f'{"-" if n < 0 else ""}{abs(n) // 10}.{abs(n) % 10}'
 
 
-def head(function, shown='Hall'):
-    return ['unit=945', 'number=1234', 'version=105', 'name=FILE1', f'function={function}', f'title={shown}']
+def head(function, shown='Hall', model=M945):
+    return [f'unit={model.unit}', 'number=1234', f'version={model.version}', 'name=FILE1', f'function={function}',
+            f'title={shown}']
 
 
 def text(lines):
@@ -51,6 +57,35 @@ def wide_classes():
     lines += [f'{name},dB,0.0,0.0,0.0' for name in names] + ['profile,from dB,count']
     lines += [f'P1,{tenths(32767 + i * 65535)},17' for i in range(count - 1)]
     return without_title(File(1, blocks)), lines + [f'P1,{tenths(32767 + (count - 1) * 65535)},4294967295']
+
+
+def wide_classes_953():
+    """The longest sheet of a 953: 16,314 classes behind the results of a dose meter."""
+    count = 16314
+    times = {1: 65535, 2: 65535}, {1: 65534, 2: 65535}, {}  # a measurement's, an overload's, and one that is not shown
+    results = profiles('07', [{i: 100 * p + i for i in range(3, 15)} | time for p, time in enumerate(times, 6)], 1, M953)
+    statistics = profiles('09', [{}, {}, {1: count, 2: 0x8000, 3: 65535}])
+    blocks = opening(4, (2, 3, 0), (15, 1, 8), ON, 1, M953)
+    blocks += results, statistics, *(histogram(kind, 0) for kind in HISTOGRAMS[:2]), histogram(HISTOGRAMS[2], count)
+    file = without_title(File(4, blocks + (Block('end', (END,)),), M953))
+    assert len(file.words()) == 32768
+    lines = head(4, '', M953) + ['result,unit,P1 A,P2 C,P3 Z', 'time,s,4294967295,,', 'overload,s,4294967294,,']
+    for name, i in DOSE_ROWS.items():
+        lines.append(f'{name},dB,{tenths(600 + i)},{tenths(700 + i)},{tenths(800 + i)}')
+    return file, lines + ['profile,from dB,count'] + [f'P3,{tenths(i * 65535 - 32768)},17' for i in range(count)]
+
+
+def octaves_953():
+    """All fifteen octaves of a 953 with three totals, and the six from 500 Hz on with none; levels from the lowest on."""
+    hertz = '1', '2', '4', '8', '16', '31.5', '63', '125', '250', '500', '1000', '2000', '4000', '8000', '16000'
+    file = file_953(2, filters=(0, 0, 0)).edit('04', {14: 0})
+    file = file.swap('07', profiles('07', [{i: 0x8000 for i in range(1, 15)}] * 3, model=M953))
+    lines = head(2, model=M953) + ['result,unit,P1 Z,P2 Z,P3 Z', 'time,s,2147516416,,', 'overload,s,2147516416,,']
+    lines += [f'{name},dB' + ',-3276.8' * 3 for name in ROWS_953] + ['band,Hz,dB Z']
+    for lowest, first, totals in (100, 0, 3), (50000, 9, 0):
+        names = [f'{i},{name}' for i, name in enumerate(hertz[first:], 1)] + [f'T{i},' for i in range(1, totals + 1)]
+        block = spectrum_block('0E', (lowest, 15 - first, totals), tuple(0x8000 + i for i in range(len(names))))
+        yield file.swap('0E', block), lines + [f'{name},{tenths(i - 32768)}' for i, name in enumerate(names)]
 
 
 def fitting(lines, room):
@@ -102,3 +137,8 @@ def asks():
         yield f'label of {size} bytes', label, without_title(heading), lines, 0, 1024
         yield f'label of {size} bytes, output of 1023', label, without_title(heading), lines, 0, 1023
         yield f'label of {size} bytes that is not shown', label, heading, columns, 0, 1024
+    classes, bounds = wide_classes_953()
+    for n in 0, len(bounds) - 1, len(bounds):
+        yield f'953, longest sheet from line {n}', b'', classes, bounds, n, 65536
+    for (file, lines), name in zip(octaves_953(), ('15', '6')):
+        yield f'953, {name} octaves', b'', file, lines, 6, 1024

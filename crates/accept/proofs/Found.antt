@@ -8,7 +8,7 @@ use native.Mathlib.Omega.{arith}
 use lib.Dec.{eqb}
 use lib.ListN.{length, getD, take, drop, length-drop}
 use lib.Seq.{length-take-le}
-use borrow.Author.Tests.{eqb-true, eqb-false, ne-eqb}
+use borrow.Author.Tests.{eqb-true}
 use Rattle.words.specs.Words.{low, wordsOf}
 use Rattle.blocks.specs.declared.Cursor.{Cursor}
 use Rattle.blocks.specs.declared.Stop.{Stop}
@@ -31,12 +31,12 @@ use Rattle.accept.specs.declared.judge.State.{State}
 use Rattle.accept.specs.declared.judge.Judged.the-variants.{Passed}
 use Rattle.accept.specs.Judge.{absent, noStarts, placeOf, noted, firstState, skipped, entered, enteredBy, judge, misfit, surveyed}
 use Rattle.accept.specs.Slims.{slimPart, knownFrom, slims, slimsIn, noSlim, slimFrom, slimAt, places, startOf, partAt, blockAt, rawAt}
-use Rattle.accept.proofs.Models.{read-by}
+use Rattle.accept.proofs.Late.{Same, read-by}
 use Rattle.accept.proofs.Onward.{no-fuel, passes, known-through}
 use Rattle.accept.proofs.Seen.{no-denied, Through, unlisted, listed, closed-passed}
 
 -- a block with its raw words, where it starts
-pub record There (ws : List ℕ) (model place start : ℕ) (x : Slim) : Type 0 where
+pub record There (ws : List ℕ) (last : Setup) (place start : ℕ) (x : Slim) : Type 0 where
   pub front : frontOf (drop start ws) ≡ cut (length (blockAt ws start))
   pub fits : start + (length (blockAt ws start) + rawOf (blockAt ws start)) ≤ length ws
   pub place-is : placeOf (keyOf (getD (blockAt ws start) 0 0)) ≡ place
@@ -44,12 +44,12 @@ pub record There (ws : List ℕ) (model place start : ℕ) (x : Slim) : Type 0 w
   pub setup : Setup
   pub good : kept (rowFor setup (getD (blockAt ws start) 0 0)) (blockAt ws start) ≡ Good
   pub slim : x ≡ slimOf setup (blockAt ws start) (rawAt ws start)
-  pub by-model : eqb place 0x01 ≡ false → eqb place 0x02 ≡ false → setup .model ≡ model
+  pub by-last : 6 ≤ place → Same setup last
 
 -- a place of the file: a block stands there, or the place is absent
-pub data Found (ws : List ℕ) (model place start : ℕ) (x : Slim) : Type 0 where
-  there : There ws model place start x → Found ws model place start x
-  nowhere : start ≡ absent → x ≡ noSlim → Found ws model place start x
+pub data Found (ws : List ℕ) (last : Setup) (place start : ℕ) (x : Slim) : Type 0 where
+  there : There ws last place start x → Found ws last place start x
+  nowhere : start ≡ absent → x ≡ noSlim → Found ws last place start x
 
 -- the block of a step is the one that starts there
 pub block-at : (ws : List ℕ) (at k : ℕ) → frontOf (drop at ws) ≡ cut k → blockAt ws at ≡ take k (drop at ws)
@@ -72,18 +72,23 @@ slim-key s b raw =
     key-same (wordIn (slimOf s b raw) 0) (getD b 0 0) (slim-id r b raw)
     (λ e. exact-word r b raw (row-exact s (getD b 0 0) ∙ ap (λ (i : ℕ). kindOf i .exact) e) 0)
 
--- a key at another place than a key's own is another key
-key-not : (key place k : ℕ) → placeOf key ≡ place → eqb place k ≡ false → placeOf k ≡ k → eqb key k ≡ false
-key-not key place k p h q = ne-eqb key k (λ e. eqb-false place k h (sym p ∙ ap placeOf e ∙ q))
+-- a block at a place behind 05 is a block behind 05
+place-late : (key place : ℕ) → placeOf key ≡ place → 6 ≤ place → 6 ≤ key
+unfolding placeOf
+place-late key place p h = go (eqb key 0x10) refl p
+  where
+    go : (t : Bool) → eqb key 0x10 ≡ t → cond t 0x0E key ≡ place → 6 ≤ key
+    go true q e = omega (arith, eqb-true key 0x10 q)
+    go false q e = omega (arith, e)
 
 -- the block of a step, with its raw words, stands where the step found it
-step-there : (ws : List ℕ) (model place start len : ℕ) (known : Setup) → (eqb place 0x01 ≡ false → eqb place 0x02 ≡ false → known .model ≡ model) → frontOf (drop start ws) ≡ cut len
+step-there : (ws : List ℕ) (last : Setup) (place start len : ℕ) (known : Setup) → (6 ≤ place → Same known last) → frontOf (drop start ws) ≡ cut len
     → start + (len + rawOf (take len (drop start ws))) ≤ length ws
     → placeOf (keyOf (getD (take len (drop start ws)) 0 0)) ≡ place → kindOf (low (getD (take len (drop start ws)) 0 0)) .listed ≡ true
     → kept (rowFor known (getD (take len (drop start ws)) 0 0)) (take len (drop start ws)) ≡ Good
-    → There ws model place start (slimOf known (take len (drop start ws)) (take (rawOf (take len (drop start ws))) (drop (start + len) ws)))
+    → There ws last place start (slimOf known (take len (drop start ws)) (take (rawOf (take len (drop start ws))) (drop (start + len) ws)))
 unfolding rawAt
-step-there ws model place start len known by f fits p l g =
+step-there ws last place start len known by f fits p l g =
     let b = take len (drop start ws) in
     let same : b ≡ blockAt ws start = sym (block-at ws start len f) in
     let n : length b ≡ len = length-take-le len (drop start ws) (omega (arith, length-drop start ws)) in
@@ -93,7 +98,7 @@ step-there ws model place start len known by f fits p l g =
       place-is = subst (λ (v : List ℕ). placeOf (keyOf (getD v 0 0)) ≡ place) same p;
       row-is = subst (λ (v : List ℕ). kindOf (low (getD v 0 0)) .listed ≡ true) same l;
       setup = known;
-      by-model = by;
+      by-last = by;
       good = subst (λ (v : List ℕ). kept (rowFor known (getD v 0 0)) v ≡ Good) same g;
       slim = rw (block-at ws start len f) (ap (λ (k : ℕ). slimOf known b (take (rawOf b) (drop (start + k) ws))) (sym n));
     }
@@ -113,60 +118,60 @@ module _ (ws : List ℕ) (place : ℕ) where
     -- a block that goes through, and where its raw words end
     found-next : (s s′ last : State) (w : Walk) → judge s′ w ≡ Passed last → (start len : ℕ) (x : Slim) → frontOf (drop start ws) ≡ cut len
         → start + (len + rawOf (take len (drop start ws))) ≤ length ws
-        → Through s start (take len (drop start ws)) s′ → Found ws (last .setup .model) place (startOf place (s .starts)) x → (ps : List Part)
-        → (y : Slim) × (Found ws (last .setup .model) place (startOf place (s′ .starts)) y
+        → Through s start (take len (drop start ws)) s′ → Found ws (last .setup) place (startOf place (s .starts)) x → (ps : List Part)
+        → (y : Slim) × (Found ws (last .setup) place (startOf place (s′ .starts)) y
         × (slimFrom place x (slims (s .setup) (partAt ws start len ∷ ps)) ≡ slimFrom place y (slims (s′ .setup) ps)))
     unfolding skipped enteredBy entered partAt placeOf
     found-next s s′ last w goes start len x f all (unlisted l e) h ps =
-        (x, (subst (λ (st : State). Found ws (last .setup .model) place (startOf place (st .starts)) x) e h, rw (known-through s s′ start (partAt ws start len) (unlisted l e)) (slims-pass (s .setup) (partAt ws start len) ps x l)))
+        (x, (subst (λ (st : State). Found ws (last .setup) place (startOf place (st .starts)) x) e h, rw (known-through s s′ start (partAt ws start len) (unlisted l e)) (slims-pass (s .setup) (partAt ws start len) ps x l)))
     found-next s s′ last w goes start len x f all (listed l d g e) h ps =
         let b = take len (drop start ws) in
         let raw = take (rawOf b) (drop (start + len) ws) in (
           cond (eqb (placeOf (keyOf (getD b 0 0))) place) (slimOf (s .setup) b raw) x,
           (
-            subst (λ (st : State). Found ws (last .setup .model) place (startOf place (st .starts)) (cond (eqb (placeOf (keyOf (getD b 0 0))) place) (slimOf (s .setup) b raw) x)) e
+            subst (λ (st : State). Found ws (last .setup) place (startOf place (st .starts)) (cond (eqb (placeOf (keyOf (getD b 0 0))) place) (slimOf (s .setup) b raw) x)) e
                 (rw (notes (s .starts) (placeOf (keyOf (getD b 0 0))) start) (go (eqb (placeOf (keyOf (getD b 0 0))) place) refl)),
             rw (known-through s s′ start (partAt ws start len) (listed l d g e)) (slims-next (s .setup) (partAt ws start len) ps x l),
           ),
         )
       where
         go : (t : Bool) → eqb (placeOf (keyOf (getD (take len (drop start ws)) 0 0))) place ≡ t
-            → Found ws (last .setup .model) place (cond t start (startOf place (s .starts))) (cond t (slimOf (s .setup) (take len (drop start ws)) (take (rawOf (take len (drop start ws))) (drop (start + len) ws))) x)
+            → Found ws (last .setup) place (cond t start (startOf place (s .starts))) (cond t (slimOf (s .setup) (take len (drop start ws)) (take (rawOf (take len (drop start ws))) (drop (start + len) ws))) x)
         go false p = h
         go true p =
             let at : placeOf (keyOf (getD (take len (drop start ws)) 0 0)) ≡ place = eqb-true _ place p in
             let on : judge (enteredBy s start (take len (drop start ws))) w ≡ Passed last = subst⁻¹ (λ (st : State). judge st w ≡ Passed last) e goes in
-            there (step-there ws (last .setup .model) place start len (s .setup) (λ h u. read-by s last start (take len (drop start ws)) w on (key-not (keyOf (getD (take len (drop start ws)) 0 0)) place 0x01 at h refl) (key-not (keyOf (getD (take len (drop start ws)) 0 0)) place 0x02 at u refl)) f all at l g)
+            there (step-there ws (last .setup) place start len (s .setup) (λ h. read-by s last start (take len (drop start ws)) w on (place-late (keyOf (getD (take len (drop start ws)) 0 0)) place at h)) f all at l g)
 
     -- the blocks from a cursor on, up to the end of an accepted file
     abbrev Later : ℕ → Type 0
-    Later m = (c : Cursor) (s s′ : State) (x : Slim) → Found ws (s′ .setup .model) place (startOf place (s .starts)) x → judge s (walkFrom m ws c) ≡ Passed s′
-        → Found ws (s′ .setup .model) place (startOf place (s′ .starts)) (slimFrom place x (slims (s .setup) (partsOf (walkFrom m ws c))))
+    Later m = (c : Cursor) (s s′ : State) (x : Slim) → Found ws (s′ .setup) place (startOf place (s .starts)) x → judge s (walkFrom m ws c) ≡ Passed s′
+        → Found ws (s′ .setup) place (startOf place (s′ .starts)) (slimFrom place x (slims (s .setup) (partsOf (walkFrom m ws c))))
 
-    found-over : (m : ℕ) (c : Cursor) (s s′ : State) (x : Slim) (stop : Stop) → stepAt ws c ≡ Over stop → Found ws (s′ .setup .model) place (startOf place (s .starts)) x
-        → judge s (walkFrom (suc m) ws c) ≡ Passed s′ → Found ws (s′ .setup .model) place (startOf place (s′ .starts)) (slimFrom place x (slims (s .setup) (partsOf (walkFrom (suc m) ws c))))
+    found-over : (m : ℕ) (c : Cursor) (s s′ : State) (x : Slim) (stop : Stop) → stepAt ws c ≡ Over stop → Found ws (s′ .setup) place (startOf place (s .starts)) x
+        → judge s (walkFrom (suc m) ws c) ≡ Passed s′ → Found ws (s′ .setup) place (startOf place (s′ .starts)) (slimFrom place x (slims (s .setup) (partsOf (walkFrom (suc m) ws c))))
     unfolding judge slims slimFrom partsOf
     found-over m c s s′ x stop q h e =
         let o = walk-over m ws c stop q in
         let same = closed-passed s s′ stop (sym (ap (judge s) o) ∙ e) in
-        subst⁻¹ (λ (w : Walk). Found ws (s′ .setup .model) place (startOf place (s′ .starts)) (slimFrom place x (slims (s .setup) (partsOf w)))) o
-        (subst (λ (st : State). Found ws (s′ .setup .model) place (startOf place (st .starts)) x) same h)
+        subst⁻¹ (λ (w : Walk). Found ws (s′ .setup) place (startOf place (s′ .starts)) (slimFrom place x (slims (s .setup) (partsOf w)))) o
+        (subst (λ (st : State). Found ws (s′ .setup) place (startOf place (st .starts)) x) same h)
 
     found-block : (m : ℕ) → Later m → (c : Cursor) (s s′ : State) (x : Slim) (id nn start len : ℕ) (next : Cursor) → stepAt ws c ≡ Block id nn start len next
-        → Found ws (s′ .setup .model) place (startOf place (s .starts)) x → judge s (walkFrom (suc m) ws c) ≡ Passed s′
-        → Found ws (s′ .setup .model) place (startOf place (s′ .starts)) (slimFrom place x (slims (s .setup) (partsOf (walkFrom (suc m) ws c))))
+        → Found ws (s′ .setup) place (startOf place (s .starts)) x → judge s (walkFrom (suc m) ws c) ≡ Passed s′
+        → Found ws (s′ .setup) place (startOf place (s′ .starts)) (slimFrom place x (slims (s .setup) (partsOf (walkFrom (suc m) ws c))))
     unfolding partsOf partAt
     found-block m later c s s′ x id nn start len next q h e =
         let p = passes ws m c s s′ id nn start len next q e in
         let more = found-next s (p .state) s′ (walkFrom m ws next) (p .goes) start len x (p .front) (p .fits) (p .through) h (partsOf (walkFrom m ws next)) in
-        subst⁻¹ (λ (w : Walk). Found ws (s′ .setup .model) place (startOf place (s′ .starts)) (slimFrom place x (slims (s .setup) (partsOf w)))) (walk-block m ws c id nn start len next q)
+        subst⁻¹ (λ (w : Walk). Found ws (s′ .setup) place (startOf place (s′ .starts)) (slimFrom place x (slims (s .setup) (partsOf w)))) (walk-block m ws c id nn start len next q)
         (rw (more .1 .1) (later next (p .state) s′ (more .0) (more .1 .0) (p .goes)))
 
     found-judged : (m : ℕ) → Later m
     found-judged zero c s s′ x h e = absurd (no-fuel ws s s′ c e)
     found-judged (suc m) c s s′ x h e = go (stepAt ws c) refl (found-judged m)
       where
-        go : (y : Step) → stepAt ws c ≡ y → Later m → Found ws (s′ .setup .model) place (startOf place (s′ .starts)) (slimFrom place x (slims (s .setup) (partsOf (walkFrom (suc m) ws c))))
+        go : (y : Step) → stepAt ws c ≡ y → Later m → Found ws (s′ .setup) place (startOf place (s′ .starts)) (slimFrom place x (slims (s .setup) (partsOf (walkFrom (suc m) ws c))))
         go (Over stop) q later = found-over m c s s′ x stop q h e
         go (Block id nn start len next) q later = found-block m later c s s′ x id nn start len next q h e
 
@@ -200,12 +205,12 @@ each-at P (p ∷ ps) a n e = go (eqb n p) refl e (each-at P ps (a .1) n)
     go false q f later = later f
 
 pub found : (file : List ℕ) (s : State) → surveyed file ≡ Passed s → (place : ℕ) → isIn place places ≡ true
-    → Found (wordsOf file) (s .setup .model) place (startOf place (s .starts)) (slimAt place (slimsIn file))
+    → Found (wordsOf file) (s .setup) place (startOf place (s .starts)) (slimAt place (slimsIn file))
 unfolding surveyed slimAt slimsIn
 found file s e place h =
     let ws = wordsOf file in
     let j = cond-second (misfit file) e no-denied in
     let a = each-at Noted places each-noted place h in
     let start : judge firstState (walkFrom (suc (length ws)) ws (record { at = 0; last = 0 })) ≡ Passed s = ap (judge firstState) (walk-start ws) ∙ j .1 in
-    subst (λ (w : Walk). Found ws (s .setup .model) place (startOf place (s .starts)) (slimFrom place noSlim (slims noSetup (partsOf w)))) (walk-start ws)
+    subst (λ (w : Walk). Found ws (s .setup) place (startOf place (s .starts)) (slimFrom place noSlim (slims noSetup (partsOf w)))) (walk-start ws)
     (found-judged ws place (a .notes) (suc (length ws)) (record { at = 0; last = 0 }) firstState s noSlim (nowhere (a .none) refl) start)

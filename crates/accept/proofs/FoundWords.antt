@@ -70,30 +70,21 @@ no-record zero = refl
 no-record (suc p) = no-record p
 
 -- the files that may be accepted have 32,768 words at most
-module _ {ws : List ℕ} (few : length ws ≤ 32768) {model start : ℕ} {x : Slim} where
+module _ {ws : List ℕ} (few : length ws ≤ 32768) {last : Setup} {start : ℕ} {x : Slim} where
   module _ (id : ℕ) (small : id < 256) (b : id ≡ 0x0B → ⊥) (e : id ≡ 0x0E → ⊥) where
-    id-there : There ws model id start x → low (getD (blockAt ws start) 0 0) ≡ id
+    id-there : There ws last id start x → low (getD (blockAt ws start) 0 0) ≡ id
     id-there t = place-id _ id small b e (t .place-is)
 
     -- word k of a block with no sub-blocks, in whichever model
-    pub found-word : (n : ℕ) → ((s : Setup) (w : ℕ) → low w ≡ id → Plain n (rowFor s w)) → (k : ℕ) → 0 < k → k < n → Found ws model id start x → wordIn x k ≡ getD (blockAt ws start) k 0
+    pub found-word : (n : ℕ) → ((s : Setup) (w : ℕ) → low w ≡ id → Plain n (rowFor s w)) → (k : ℕ) → 0 < k → k < n → Found ws last id start x → wordIn x k ≡ getD (blockAt ws start) k 0
     unfolding wordIn slimOf
     found-word n p k h l (there t) =
         let q = p (t .setup) _ (id-there t) in
         ap (λ (y : Slim). wordIn y k) (t .slim) ∙ plain-word (rowFor (t .setup) (getD (blockAt ws start) 0 0)) (blockAt ws start) (rawAt ws start) (q .exact) (q .text) (q .none) k h (omega (arith, q .least))
     found-word n p k h l (nowhere a z) = rw (z, none-at ws start (omega arith))
 
-    -- the same where the model is known: for a word that one model's row has alone
-    pub found-word-by : eqb id 0x01 ≡ false → eqb id 0x02 ≡ false → (n : ℕ) → ((s : Setup) (w : ℕ) → s .model ≡ model → low w ≡ id → Plain n (rowFor s w))
-        → (k : ℕ) → 0 < k → k < n → Found ws model id start x → wordIn x k ≡ getD (blockAt ws start) k 0
-    unfolding wordIn slimOf
-    found-word-by f u n p k h l (there t) =
-        let q = p (t .setup) _ (t .by-model f u) (id-there t) in
-        ap (λ (y : Slim). wordIn y k) (t .slim) ∙ plain-word (rowFor (t .setup) (getD (blockAt ws start) 0 0)) (blockAt ws start) (rawAt ws start) (q .exact) (q .text) (q .none) k h (omega (arith, q .least))
-    found-word-by f u n p k h l (nowhere a z) = rw (z, none-at ws start (omega arith))
-
     -- word o of sub-block p, found in the file by the lengths of the sub-blocks before it
-    pub found-record : (n : ℕ) → ((s : Setup) (w : ℕ) → low w ≡ id → Three n (rowFor s w)) → (p o : ℕ) → p < 3 → 0 < o → o < n → Found ws model id start x
+    pub found-record : (n : ℕ) → ((s : Setup) (w : ℕ) → low w ≡ id → Three n (rowFor s w)) → (p o : ℕ) → p < 3 → 0 < o → o < n → Found ws last id start x
         → subWordIn x p o ≡ recordWord (blockAt ws start) p o
     unfolding subWordIn recordWord slimOf
     found-record n m p o h k l (there t) =
@@ -102,13 +93,13 @@ module _ {ws : List ℕ} (few : length ws ≤ 32768) {model start : ℕ} {x : Sl
     found-record n m p o h k l (nowhere a z) = rw (z, none-at ws start (omega arith), no-record p)
 
   -- the raw words
-  pub found-raw : (place : ℕ) → Found ws model place start x → x .contents ≡ rawAt ws start
+  pub found-raw : (place : ℕ) → Found ws last place start x → x .contents ≡ rawAt ws start
   unfolding slimOf slimBy
   found-raw place (there t) = ap (λ (y : Slim). y .contents) (t .slim)
   found-raw place (nowhere a n) = rw (n, none-behind ws start (omega arith))
 
   -- a histogram, which is kept whole
-  pub found-whole : (place : ℕ) → low place ≡ 0x0B → Found ws model place start x → x .head ≡ blockAt ws start
+  pub found-whole : (place : ℕ) → low place ≡ 0x0B → Found ws last place start x → x .head ≡ blockAt ws start
   unfolding slimOf slimBy headBy rowOf
   found-whole place h (there t) =
       let w = getD (blockAt ws start) 0 0 in

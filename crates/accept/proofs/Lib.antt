@@ -1,7 +1,7 @@
 -- The laws of the judgement and of the starts. Assumes nothing.
 pub mod Turns
 pub mod Seen
-pub mod Models
+pub mod Late
 pub mod Onward
 pub mod Found
 pub mod FoundWords

@@ -1,4 +1,5 @@
--- The starred cases of document 01's page, Checked files, in one list: 1 to 5, 8 and 9. Assumes nothing.
+-- The starred cases of document 01's page, Checked files, in one list: 1 to 5, 8 and 9; "Checked file 3 becomes 3 at 12" (request
+-- T-01). Assumes nothing.
 use mathlib.Core.List.{List, [], _∷_, _++_}
 use mathlib.Core.Path.{_≡_}
 use Prim.Native.Nat.{ℕ}
@@ -129,7 +130,7 @@ starred =
     ∷ refused (bytesOf (0xFFFF ∷ [])) 1 4 0
     ∷ refused (bytesOf (0x0C01 ∷ [])) 1 2 0
     ∷ refused (bytesOf (0x0601 ∷ replicate 5 0)) 6 3 0
-    ∷ refused (bytesOf (block01 ++ (0x0602 ∷ (0 ∷ (953 ∷ replicate 3 0))))) 18 5 14
+    ∷ refused (bytesOf (block01 ++ (0x0602 ∷ (0 ∷ (953 ∷ replicate 3 0))))) 18 3 12
     ∷ refused (bytesOf (block01 ++ (0x00AA ∷ (0x0001 ∷ [])))) 14 3 12
     ∷ shows (tenths (level 0xFFFB)) (ascii "-0.5")
     ∷ shows (tenths (level 0x8000)) (ascii "-3276.8")

@@ -8,6 +8,7 @@ use Prim.Native.Nat.{ℕ, _%_, _≤_}
 use lib.Dec.{eqb}
 use lib.ListN.{length, getD}
 use Rattle.words.specs.Words.{low, wordsOf}
+use Rattle.models.specs.Models.{columns}
 use Rattle.blocks.specs.Walk.{Part, joined, Wholes}
 use Rattle.rules.specs.declared.Tested.the-variants.{Good}
 use Rattle.rules.specs.Block.{kept}
@@ -68,7 +69,7 @@ Buffer = Then 0x0F End
 
 -- "then either 0F with its contents, or 07, .."; "a 953 file with 0F is 4"
 abbrev pub Contents : Blocks
-Contents s ps = cond (eqb (s .model) 953) (Measurement s ps) (Either Buffer Measurement s ps)
+Contents s ps = columns (s .model) (Either Buffer Measurement s ps) (Measurement s ps)
 
 -- "01 (at word 0), 02, 03, 04, 05; then .."
 pub data Ordered : List Part → Type 0 where

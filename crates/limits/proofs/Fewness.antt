@@ -1,12 +1,13 @@
 -- The sheet of an accepted file has few lines. Assumes nothing.
 use mathlib.Core.Bool.{Bool, true, false, cond}
-use mathlib.Core.List.{List, []}
+use mathlib.Core.List.{List, [], _∷_}
 use mathlib.Core.Path.{_≡_}
 use Prim.Native.Nat.{ℕ, _≤_, _<_, zero-le}
 use native.Mathlib.Omega.{arith}
-use lib.Dec.{ltb, lit≤}
+use lib.Dec.{eqb, ltb, lit≤}
 use lib.ListN.{length, length-append, length-map}
-use Rattle.rules.specs.Slim.{Slim}
+use Rattle.text.specs.Ascii.{ascii}
+use Rattle.rules.specs.Slim.{Slim, wordIn}
 use Rattle.accept.specs.declared.judge.State.{State}
 use Rattle.accept.specs.declared.judge.Judged.the-variants.{Passed}
 use Rattle.accept.specs.Judge.{surveyed}
@@ -14,11 +15,13 @@ use Rattle.accept.specs.Slims.{slimsIn, slimAt}
 use Rattle.reading.proofs.ClassLaws.{classes-few}
 use Rattle.reading.proofs.ReadLaws.{contents-few}
 use Rattle.lines.specs.Line.{SheetLine}
+use Rattle.lines.specs.Lines.{timeRow, spanRow}
+use Rattle.names.proofs.EntryLaws.{shown-few}
 use Rattle.lines.proofs.CellLaws.{numbers-length}
-use Rattle.pages.specs.Rows.{bandRows, totalRows, levelRows, classRows, recordRows, texts}
-use Rattle.pages.specs.Sheet.{whereThere, headLines, resultLines, spectrumLines, histogramIn, statisticsLines, widthIn, bufferLines, sheetLines, sheetTexts}
+use Rattle.pages.specs.Rows.{timeRows, bandRows, totalRows, levelRows, classRows, recordRows, texts}
+use Rattle.pages.specs.Sheet.{whereThere, modelIn, functionIn, headLines, timeIn, resultLines, spectrumLines, histogramIn, statisticsLines, widthIn, bufferLines, sheetLines, sheetTexts}
 use Rattle.pages.proofs.RowLaws.{records-few}
-use Rattle.limits.proofs.Counts.{bands-few}
+use Rattle.limits.proofs.Counts.{nominal-few, bands-few, totals-few}
 
 -- a section that has at most n lines where its block is
 section-few : (x : Slim) (ls : List SheetLine) {n : ℕ} → length ls ≤ n → length (whereThere x ls) ≤ n
@@ -29,15 +32,27 @@ section-few x ls {n} h = go (ltb 0 (length (x .head)))
     go true = h
     go false = zero-le
 
-results-few : (xs : List Slim) → length (resultLines xs) ≤ 13
-unfolding resultLines
-results-few xs = section-few _ _ (simp (length-map, numbers-length) (lit≤ tt))
+times-few : (model a b c : ℕ) → length (timeRows model a b c) ≤ 2
+unfolding timeRows
+times-few model a b c = go (eqb model 953)
+  where
+    go : (t : Bool) → length (cond t (spanRow (ascii "time") a ∷ spanRow (ascii "overload") b ∷ []) (timeRow a b c ∷ [])) ≤ 2
+    go true = lit≤ tt
+    go false = lit≤ tt
 
-spectrum-few : (xs : List Slim) → length (spectrumLines xs) ≤ 49
-unfolding spectrumLines levelRows bandRows totalRows
-spectrum-few xs = section-few _ _ (simp (length-append, length-map, numbers-length) (omega (arith, bands-few (slimAt 0x0E xs))))
+results-few : (xs : List Slim) → length (resultLines xs) ≤ 14
+unfolding resultLines
+results-few xs =
+    section-few _ _
+    (simp (length-append, length-map) (omega (arith, times-few (modelIn xs) (timeIn (slimAt 0x07 xs) 0) (timeIn (slimAt 0x07 xs) 1) (timeIn (slimAt 0x07 xs) 2), shown-few (modelIn xs) (functionIn xs))))
 
 module _ (file : List ℕ) (s : State) (e : surveyed file ≡ Passed s) where
+  spectrum-few : length (spectrumLines (slimsIn file)) ≤ 49
+  unfolding spectrumLines levelRows bandRows totalRows wordIn
+  spectrum-few =
+      section-few _ _
+      (simp (length-append, length-map, numbers-length) (omega (arith, bands-few file s e, totals-few file s e, nominal-few (slimAt 0x0E (slimsIn file)))))
+
   histogram-few : (p place : ℕ) → p < 3 → length (histogramIn (slimsIn file) p place) ≤ 32767
   unfolding histogramIn classRows
   histogram-few p place h = simp (length-map, numbers-length) (omega (arith, classes-few file s e p h))
@@ -59,4 +74,4 @@ pub sheet-few : (file label : List ℕ) (s : State) → surveyed file ≡ Passed
 unfolding sheetTexts texts sheetLines headLines
 sheet-few file label s e =
     simp (length-map, length-append)
-    (omega (arith, results-few (slimsIn file), spectrum-few (slimsIn file), statistics-few file s e, buffer-few file s e))
+    (omega (arith, results-few (slimsIn file), spectrum-few file s e, statistics-few file s e, buffer-few file s e))

@@ -1,28 +1,24 @@
 -- The words of an accepted file's slim blocks are words of the file, so they are below 65,536. Assumes nothing.
-use mathlib.Core.Bool.{Bool, true, false, cond}
+use mathlib.Core.Bool.{true}
 use mathlib.Core.List.{List, [], _∷_}
-use mathlib.Core.Path.{_≡_, refl, sym, ap, subst, subst⁻¹, _∙_}
+use mathlib.Core.Path.{_≡_, refl, ap, subst, subst⁻¹}
 use Prim.Native.Nat.{ℕ, zero, suc, _+_, _*_, _<_}
 use native.Mathlib.Omega.{arith}
-use lib.Dec.{eqb}
+use lib.Dec.{lit≤}
 use lib.ListN.{length, getD, take, drop}
-use borrow.Author.Tests.{eqb-true, eqb-false}
 use Rattle.words.specs.Words.{high, wordsOf, longAt}
 use Rattle.words.proofs.WordLaws.{Below, below-drop, below-take, words-below}
-use Rattle.units.specs.Frequency.{octaves, thirds}
 use Rattle.rules.specs.Block.{recordAt, recordWord}
 use Rattle.rules.specs.Slim.{Slim, wordIn, subWordIn}
 use Rattle.tables.specs.Table.{kindOf}
-use Rattle.tables.specs.Setup.{idIn}
 use Rattle.accept.specs.declared.judge.State.{State}
 use Rattle.accept.specs.declared.judge.Judged.the-variants.{Passed}
 use Rattle.accept.specs.Judge.{surveyed}
 use Rattle.accept.specs.Slims.{slimsIn, slimAt, places, startOf, blockAt, rawAt}
 use Rattle.accept.proofs.Found.{Found, there, nowhere, isIn, block-at, found}
 use Rattle.accept.proofs.FoundWords.{none-at, accepted-few}
-use Rattle.reading.proofs.ReadLaws.{read-word, read-record, spectrum-id, read-contents, read-counts}
-use Rattle.reading.proofs.SpectrumLaws.{spectrum-third, spectrum-octave}
-use Rattle.pages.specs.Sheet.{bandsIn}
+use Rattle.reading.proofs.ReadLaws.{read-word, read-record, read-contents, read-counts}
+use Rattle.reading.proofs.SpectrumLaws.{spectrum-word}
 
 take-again : (n : ℕ) (l : List ℕ) → take (length (take n l)) l ≡ take n l
 take-again zero l = refl
@@ -55,7 +51,7 @@ module _ (file : List ℕ) (s : State) (e : surveyed file ≡ Passed s) (small :
       start : ℕ
       start = startOf place (s .starts)
 
-      go : {x : Slim} → Found ws (s .setup .model) place start x → Below 65536 (blockAt ws start)
+      go : {x : Slim} → Found ws (s .setup) place start x → Below 65536 (blockAt ws start)
       go (there t) =
           let n = length (blockAt ws start) in
           subst⁻¹ (Below 65536) (block-at ws start n (t .front)) (below-take n (drop start ws) (omega arith) (below-drop start ws (words-below file small)))
@@ -72,14 +68,12 @@ module _ (file : List ℕ) (s : State) (e : surveyed file ≡ Passed s) (small :
       let b = blockAt (wordsOf file) (startOf id (s .starts)) in
       rw (read-record file s e id i p o h k l) (record-below p (drop 2 b) (below-drop 2 b (block-small id place)) o)
 
-  -- the levels of the spectrum: those of its bands and three totals
-  pub level-small : (k : ℕ) → 0 < k → k < length (bandsIn (slimAt 0x0E (slimsIn file))) + 8 → wordIn (slimAt 0x0E (slimsIn file)) k < 65536
-  unfolding bandsIn octaves thirds isIn places startOf
-  level-small k h l = go (eqb (idIn (slimAt 0x0E (slimsIn file))) 0x10) refl l
-    where
-      go : (t : Bool) → eqb (idIn (slimAt 0x0E (slimsIn file))) 0x10 ≡ t → k < length (cond t thirds octaves) + 8 → wordIn (slimAt 0x0E (slimsIn file)) k < 65536
-      go true q m = rw (spectrum-third file s e (sym (spectrum-id file s e) ∙ eqb-true _ _ q) k h m) (block-small 0x0E refl k)
-      go false q m = rw (spectrum-octave file s e (λ z. eqb-false _ _ q (spectrum-id file s e ∙ z)) k h m) (block-small 0x0E refl k)
+  -- the levels of the spectrum: those of its bands and its totals
+  pub level-small : (k : ℕ) → 0 < k → (let x = slimAt 0x0E (slimsIn file) in k < 5 + (wordIn x 3 + wordIn x 4)) → wordIn (slimAt 0x0E (slimsIn file)) k < 65536
+  unfolding isIn places startOf
+  level-small k h l =
+      let word = spectrum-word file s e in
+      rw (word k h (omega (arith, word 3 (lit≤ tt) (omega arith), word 4 (lit≤ tt) (omega arith)))) (block-small 0x0E refl k)
 
   pub contents-small : Below 65536 (slimAt 0x0F (slimsIn file) .contents)
   contents-small = subst⁻¹ (Below 65536) (read-contents file s e) (raw-below (wordsOf file) (s .starts .logger) (words-below file small))

@@ -5,14 +5,14 @@ use crate::line::put_entry;
 use crate::line::put_line;
 use crate::line::put_record;
 use crate::line::put_result;
+use names::Entry;
 use text::fit::Tried;
 use text::fit::try_line;
-ghost use Prim.Native.Nat.{_+_, _≤_, _<_};
+ghost use Prim.Native.Nat.{_+_, _-_, _≤_};
 ghost use lib.ListN.{length};
 ghost use Rattle.words.specs.Words.{wordsOf};
 ghost use Rattle.text.specs.Fit.{TriedTo};
 ghost use Rattle.lines.specs.Line.{bytes};
-ghost use Rattle.names.specs.Names.{named, results};
 ghost use Rattle.lines.specs.Lines.{textEntry, resultRow, recordRow};
 ghost use Rattle.lines.specs.Kinds.{lineOf, Brief, cells};
 
@@ -40,15 +40,15 @@ pub fn fit_entry(out: &mut [u8], key: &[u8], text: &[u8]) -> Tried
     try_line(out, &row[0..n])
 }
 
-pub fn fit_result(out: &mut [u8], table: [[u16; 11]; 3], i: usize) -> Tried
-    requires { ⌜ i < 11 ⌝ }
-    ensures { λ r. ⌜ TriedTo (bytes (resultRow (named results (3 + i)) (cells table i))) (now (out .entry)) (now (out .exit)) r ⌝ }
+pub fn fit_result(out: &mut [u8], table: [[u16; 11]; 3], entry: Entry) -> Tried
+    requires { ⌜ (3 ≤ entry .offset) × (entry .offset ≤ 13) ⌝ }
+    ensures { λ r. ⌜ TriedTo (bytes (resultRow entry (cells table (entry .offset - 3)))) (now (out .entry)) (now (out .exit)) r ⌝ }
 {
     if 1024 <= out.len() {
-        return Tried::Put(put_result(out, table, i));
+        return Tried::Put(put_result(out, table, entry));
     }
     let mut row = [0u8; 1024];
-    let n = put_result(&mut row, table, i);
+    let n = put_result(&mut row, table, entry);
     try_line(out, &row[0..n])
 }
 

@@ -1,4 +1,4 @@
--- The numbers in an answer fit the fields of the structs: a function is 3 at most, a position 32,768. Assumes nothing.
+-- The numbers in an answer fit the fields of the structs: a function is 4 at most, a position 32,768. Assumes nothing.
 use mathlib.Core.Bool.{Bool, true, false, cond}
 use mathlib.Core.List.{List}
 use mathlib.Core.Path.{_≡_, refl, sym, ap, _∙_}
@@ -28,11 +28,11 @@ use Rattle.meter.proofs.FunctionLaws.{function-small}
 
 module _ (file : List ℕ) {a : Answer} (h : Checked file a) where
   -- a record's function is small
-  pub accepted-function : {r : Record} → a ≡ Accepted r → r .function ≤ 3
+  pub accepted-function : {r : Record} → a ≡ Accepted r → r .function ≤ 4
   unfolding verdict answered recordOf
   accepted-function {r} e = go (surveyed file) refl (sym e ∙ checked-verdict file a h)
     where
-      go : (j : Judged) → surveyed file ≡ j → Accepted r ≡ answered j → r .function ≤ 3
+      go : (j : Judged) → surveyed file ≡ j → Accepted r ≡ answered j → r .function ≤ 4
       go (Passed s) f q = let same : r ≡ recordOf s = cc in omega (arith, ap (λ (k : Record). k .function) same, function-small file s f)
       go (Denied num at) f q = let z : _≡_ {A = ℕ} 0 1 = cc in absurd (omega arith)
 

@@ -12,6 +12,10 @@ pub keyed : (table : List (ℕ × List ℕ)) (key code : ℕ) {d e : List ℕ} {
     → Wrote (named table code) q d e n
 keyed table key code h w m = at-most (text-is w (ap (named table) (sym h))) m
 
+-- the text of a variant was written
+pub told : {A : Type 0} (text : A → List ℕ) {x variant : A} {d e : List ℕ} {n p q : ℕ} → x ≡ variant → Wrote (text variant) p d e n → p ≤ q → Wrote (text x) q d e n
+told text h w m = at-most (text-is w (ap text (sym h))) m
+
 -- N, and the code is none of the table's keys
 abbrev pub Others : Type 0 → List (ℕ × List ℕ) → ℕ → Type 0
 Others N [] code = N

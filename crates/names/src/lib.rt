@@ -1,19 +1,24 @@
-// The names of filters, buffered levels and results. A code that has no name shows nothing; accepted files have none.
+// The names of filters, buffered levels and results, and the results that a sheet shows. A code that has no name shows nothing;
+// accepted files have none.
 use text::decimal::put_short;
 use text::put::put_byte;
 use text::put::put_bytes;
 ghost use mathlib.Core.List.{_++_};
-ghost use Prim.Native.Nat.{_≤_};
-ghost use lib.ListN.{length};
+ghost use mathlib.Core.Path.{_≡_};
+ghost use Prim.Native.Nat.{_≤_, _<_};
+ghost use lib.ListN.{length, getD};
 ghost use Rattle.text.specs.Ascii.{ascii};
 ghost use Rattle.text.specs.Text.{Wrote};
-ghost use Rattle.names.specs.Names.{named, profileFilters, bufferCodes, spectrumFilters, results, profileName, filterColumn};
+ghost use Rattle.names.specs.declared.ResultName.the-variants.{Peak};
+ghost use Rattle.names.specs.declared.UnitName.the-variants.{Decibel};
+ghost use Rattle.names.specs.Names.{named, profileFilters, bufferCodes, spectrumFilters, nameOf, unitOf, result, results, profileName, filterColumn};
 
 fn put_profile_filter(out: &mut [u8], code: u16) -> usize
     requires { ⌜ 3 ≤ length (now out) ⌝ }
     ensures { λ r. ⌜ Wrote (named profileFilters code) 3 (now (out .entry)) (now (out .exit)) r ⌝ }
 {
     match code {
+        0 => put_bytes(out, b"Z"),
         1 => put_bytes(out, b"Lin"),
         2 => put_bytes(out, b"A"),
         3 => put_bytes(out, b"C"),
@@ -35,9 +40,10 @@ fn put_buffer_code(out: &mut [u8], code: u16) -> usize
     }
 }
 
-pub fn put_spectrum_filter(out: &mut [u8], code: u16) -> usize
+// The 945's names of spectrum filters.
+fn put_octave_filter(out: &mut [u8], code: u16) -> usize
     requires { ⌜ 3 ≤ length (now out) ⌝ }
-    ensures { λ r. ⌜ Wrote (named spectrumFilters code) 3 (now (out .entry)) (now (out .exit)) r ⌝ }
+    ensures { λ r. ⌜ Wrote (named (spectrumFilters 945) code) 3 (now (out .entry)) (now (out .exit)) r ⌝ }
 {
     match code {
         0 => put_bytes(out, b"HP"),
@@ -48,25 +54,208 @@ pub fn put_spectrum_filter(out: &mut [u8], code: u16) -> usize
     }
 }
 
-// The name of the result at an offset of a profile's record.
-pub fn put_result_name(out: &mut [u8], offset: u16) -> usize
-    requires { ⌜ 4 ≤ length (now out) ⌝ }
-    ensures { λ r. ⌜ Wrote (named results offset) 4 (now (out .entry)) (now (out .exit)) r ⌝ }
+pub fn put_spectrum_filter(out: &mut [u8], model: u16, code: u16) -> usize
+    requires { ⌜ 3 ≤ length (now out) ⌝ }
+    ensures { λ r. ⌜ Wrote (named (spectrumFilters model) code) 3 (now (out .entry)) (now (out .exit)) r ⌝ }
 {
-    match offset {
-        3 => put_bytes(out, b"PEAK"),
-        4 => put_bytes(out, b"MAX"),
-        5 => put_bytes(out, b"MIN"),
-        6 => put_bytes(out, b"SPL"),
-        7 => put_bytes(out, b"LEQ"),
-        8 => put_bytes(out, b"SEL"),
-        9 => put_bytes(out, b"Lex8"),
-        10 => put_bytes(out, b"Ltm3"),
-        11 => put_bytes(out, b"Ltm5"),
-        12 => put_bytes(out, b"N"),
-        13 => put_bytes(out, b"LN"),
-        _ => 0,
+    if model == 953 {
+        return put_profile_filter(out, code);
     }
+    put_octave_filter(out, code)
+}
+
+pub enum ResultName {
+    Peak,
+    Max,
+    Min,
+    Spl,
+    Leq,
+    Sel,
+    Lex8,
+    Lden,
+    Ltm3,
+    Ltm5,
+    N,
+    Ln,
+    Lav,
+    Tlav,
+}
+
+pub enum UnitName {
+    Decibel,
+    Second,
+}
+
+// A row of the results, and the offset of its words in a profile's record.
+pub struct Entry {
+    pub name: ResultName,
+    pub unit: UnitName,
+    pub offset: u16,
+}
+
+const RESULTS_945: [Entry; 11] = [
+    Entry {
+        name: ResultName::Peak,
+        unit: UnitName::Decibel,
+        offset: 3,
+    },
+    Entry {
+        name: ResultName::Max,
+        unit: UnitName::Decibel,
+        offset: 4,
+    },
+    Entry {
+        name: ResultName::Min,
+        unit: UnitName::Decibel,
+        offset: 5,
+    },
+    Entry {
+        name: ResultName::Spl,
+        unit: UnitName::Decibel,
+        offset: 6,
+    },
+    Entry {
+        name: ResultName::Leq,
+        unit: UnitName::Decibel,
+        offset: 7,
+    },
+    Entry {
+        name: ResultName::Sel,
+        unit: UnitName::Decibel,
+        offset: 8,
+    },
+    Entry {
+        name: ResultName::Lex8,
+        unit: UnitName::Decibel,
+        offset: 9,
+    },
+    Entry {
+        name: ResultName::Ltm3,
+        unit: UnitName::Decibel,
+        offset: 10,
+    },
+    Entry {
+        name: ResultName::Ltm5,
+        unit: UnitName::Decibel,
+        offset: 11,
+    },
+    Entry {
+        name: ResultName::N,
+        unit: UnitName::Decibel,
+        offset: 12,
+    },
+    Entry {
+        name: ResultName::Ln,
+        unit: UnitName::Decibel,
+        offset: 13,
+    },
+];
+
+// The last two are shown for the dose function only.
+const RESULTS_953: [Entry; 10] = [
+    Entry {
+        name: ResultName::Peak,
+        unit: UnitName::Decibel,
+        offset: 3,
+    },
+    Entry {
+        name: ResultName::Max,
+        unit: UnitName::Decibel,
+        offset: 5,
+    },
+    Entry {
+        name: ResultName::Min,
+        unit: UnitName::Decibel,
+        offset: 6,
+    },
+    Entry {
+        name: ResultName::Spl,
+        unit: UnitName::Decibel,
+        offset: 7,
+    },
+    Entry {
+        name: ResultName::Leq,
+        unit: UnitName::Decibel,
+        offset: 8,
+    },
+    Entry {
+        name: ResultName::Lden,
+        unit: UnitName::Decibel,
+        offset: 9,
+    },
+    Entry {
+        name: ResultName::Ltm3,
+        unit: UnitName::Decibel,
+        offset: 10,
+    },
+    Entry {
+        name: ResultName::Ltm5,
+        unit: UnitName::Decibel,
+        offset: 11,
+    },
+    Entry {
+        name: ResultName::Lav,
+        unit: UnitName::Decibel,
+        offset: 12,
+    },
+    Entry {
+        name: ResultName::Tlav,
+        unit: UnitName::Decibel,
+        offset: 13,
+    },
+];
+
+pub fn put_result_name(out: &mut [u8], name: ResultName) -> usize
+    requires { ⌜ 4 ≤ length (now out) ⌝ }
+    ensures { λ r. ⌜ Wrote (nameOf name) 4 (now (out .entry)) (now (out .exit)) r ⌝ }
+{
+    match name {
+        ResultName::Peak => put_bytes(out, b"PEAK"),
+        ResultName::Max => put_bytes(out, b"MAX"),
+        ResultName::Min => put_bytes(out, b"MIN"),
+        ResultName::Spl => put_bytes(out, b"SPL"),
+        ResultName::Leq => put_bytes(out, b"LEQ"),
+        ResultName::Sel => put_bytes(out, b"SEL"),
+        ResultName::Lex8 => put_bytes(out, b"Lex8"),
+        ResultName::Lden => put_bytes(out, b"Lden"),
+        ResultName::Ltm3 => put_bytes(out, b"Ltm3"),
+        ResultName::Ltm5 => put_bytes(out, b"Ltm5"),
+        ResultName::N => put_bytes(out, b"N"),
+        ResultName::Ln => put_bytes(out, b"LN"),
+        ResultName::Lav => put_bytes(out, b"LAV"),
+        ResultName::Tlav => put_bytes(out, b"TLAV"),
+    }
+}
+
+pub fn put_unit(out: &mut [u8], unit: UnitName) -> usize
+    requires { ⌜ 2 ≤ length (now out) ⌝ }
+    ensures { λ r. ⌜ Wrote (unitOf unit) 2 (now (out .entry)) (now (out .exit)) r ⌝ }
+{
+    match unit {
+        UnitName::Decibel => put_bytes(out, b"dB"),
+        UnitName::Second => put_bytes(out, b"s"),
+    }
+}
+
+// How many results a sheet shows.
+pub fn result_count(model: u16, function: u16) -> usize
+    ensures { λ r. ⌜ r ≡ length (results model function) ⌝ }
+{
+    if model != 953 {
+        return 11;
+    }
+    if function == 4 { 10 } else { 8 }
+}
+
+// Result i of those.
+pub fn result_at(model: u16, i: usize) -> Entry
+    requires { ⌜ i < length (results model 4) ⌝ }
+    ensures { λ r. ⌜ (r ≡ getD (results model 4) i (result Peak Decibel 0)) × ((3 ≤ r .offset) × (r .offset ≤ 13)) ⌝ }
+{
+    if model == 953 {
+        return RESULTS_953[i];
+    }
+    RESULTS_945[i]
 }
 
 pub fn put_profile(out: &mut [u8], p: u16) -> usize

@@ -98,7 +98,7 @@ fn put_meaning(out: &mut [u8], num: u8) -> usize
             b"a block is shorter than its table, or its length or title is wrong",
         ),
         4 => put_bytes(out, b"a block is missing, or out of order"),
-        5 => put_bytes(out, b"the meter is not a 945"),
+        5 => put_bytes(out, b"the meter is neither a 945 nor a 953"),
         6 => put_bytes(out, b"a block has another layout than its table"),
         7 => put_bytes(out, b"a profile record has a wrong id or length"),
         8 => put_bytes(out, b"a value is not one that its table allows"),

@@ -7,12 +7,12 @@ use lib.Dec.{eqb}
 use borrow.Author.Tests.{eq-eqb}
 use Rattle.text.specs.Decimal.{digits, decimal}
 use Rattle.units.specs.Level.{signed, level, bound, fixed, signedFixed, tenths}
-use Rattle.units.specs.Frequency.{fraction, centihertz, octaves, thirds}
-use Rattle.pages.specs.Sheet.{whereThere, threeIn, filtersIn, codesIn, nameIn, titleShown, headLines, timeIn, resultRowIn, resultLines, bandsIn, spectrumLines, histogramIn, statisticsLines, stepIn, widthIn, bufferLines, sheetLines, sheetTexts}
-use Rattle.pages.specs.Rows.{resultRows, bandRows, totalRows, levelRows, classRows, recordCount, recordRows, texts}
+use Rattle.units.specs.Frequency.{fraction, centihertz, octaves, thirds, bandPlace}
+use Rattle.pages.specs.Sheet.{whereThere, threeIn, filtersIn, codesIn, nameIn, titleShown, headLines, timeIn, resultRowIn, modelIn, functionIn, nominalIn, spectrumFilterIn, levelsIn, resultLines, spectrumLines, histogramIn, statisticsLines, stepIn, widthIn, bufferLines, sheetLines, sheetTexts}
+use Rattle.pages.specs.Rows.{timeRows, resultRows, bandRows, totalRows, levelRows, classRows, recordCount, recordRows, texts}
 use Rattle.lines.specs.Line.{further, separated, bytes}
-use Rattle.lines.specs.Lines.{numbersFrom, levelField, bandName, totalName, numberEntry, textEntry, resultHeading, timeRow, resultRow, bandHeading, bandRow, totalRow, classHeading, classRow, bufferColumn, bandColumns, bufferHeading, recordRow}
-use Rattle.names.specs.Names.{named, profileFilters, bufferCodes, spectrumFilters, results, profileName, filterColumn}
+use Rattle.lines.specs.Lines.{numbersFrom, levelField, bandName, totalName, numberEntry, textEntry, resultHeading, timeRow, spanRow, lettered, resultRow, bandHeading, bandRow, totalRow, classHeading, classRow, bufferColumn, bandColumns, bufferHeading, recordRow}
+use Rattle.names.specs.Names.{named, profileFilters, bufferCodes, spectrumFilters, nameOf, unitOf, results945, results953, dose953, results, profileName, filterColumn}
 use Rattle.words.specs.Words.{wordsOf, bytesOf, longAt}
 use Rattle.text.specs.Fit.{fit, joined}
 use Rattle.text.specs.Text.{beforeNull}
@@ -27,7 +27,7 @@ use Rattle.accept.specs.Check.{recordOf, answered, verdict, values}
 use Rattle.accept.specs.Slims.{slimPart, knownFrom, slims, slimsIn, slimFrom, slimAt}
 use Rattle.titles.specs.Title.{titleText, textAt, titleIn, titleAt, partOf, handed, titleOf}
 use Rattle.slims.specs.Copy.{slimWords, slimCopy, roomFor, replied, slimReply, outputBy}
-use Rattle.reading.specs.Known.{setupIn}
+use Rattle.reading.specs.Known.{learntFrom, setupIn}
 use Rattle.sheets.specs.Reply.{progressIn, askedFor, sheetReply}
 use Rattle.sheets.specs.Reply as Sheet
 use Rattle.blocks.specs.Walk as Walk
@@ -35,9 +35,9 @@ use Rattle.cases.specs.Cases.{block01, block02, block03, block04, profile, bloc
 use Rattle.grammar.proofs.Takes.{accepts}
 use Rattle.grammar.proofs.Exactly.{accepts-found}
 use Rattle.additions.specs.Additions.{recounted}
-use Rattle.promises.specs.Files.{fileOf, alone, longer, withRecords, titled, setupBlock, resultRecord, octaveSpectrum, thirdSpectrum, classRecord, histogram, loggerPart, headParts, resultsPart, statisticsParts, levelFile, octaveFile, thirdFile, bandFile}
+use Rattle.promises.specs.Files.{fileOf, alone, longer, withRecords, titled, m945, later, m953, measured, resultRecord, spectrumFrom, octave953File, dose953File, octaveSpectrum, thirdSpectrum, classRecord, histogram, loggerPart, headParts, resultsPart, statisticsParts, levelFile, octaveFile, thirdFile, bandFile}
 use Rattle.promises.specs.Forbidden.{AllChange, sheetOf, levelParts, longHistogram, endBlock, bufferParts, unlucky, forbidden}
-use Rattle.promises.specs.Various.{AllTrue, octaveParts, thirdParts, bandParts, untitledParts, lent, handedBack, asked, facts}
+use Rattle.promises.specs.Various.{AllTrue, octaveParts, thirdParts, bandParts, spectrumParts, doseParts, sameParts, untitledParts, lent, handedBack, asked, facts}
 
 -- whether two lists are the same
 unfoldable same : List ℕ → List ℕ → Bool
@@ -55,8 +55,8 @@ apart : (xs ys : List ℕ) → same xs ys ≡ false → xs ≡ ys → ⊥
 apart xs ys e f = false≢true (sym e ∙ ap (same xs) (sym f) ∙ same-itself xs)
 
 closed-lists : AllChange forbidden × AllTrue facts
-unfolding same Walk.joined Sheet.values facts forbidden sheetOf levelParts longHistogram endBlock bufferParts unlucky octaveParts thirdParts bandParts untitledParts lent handedBack asked fileOf levelFile octaveFile thirdFile bandFile headParts resultsPart statisticsParts longer withRecords titled alone setupBlock resultRecord octaveSpectrum thirdSpectrum classRecord histogram loggerPart recounted contents classesOf dueAfterResults accepts block01 block02 block03 block04 profile block05 block0F wordsOf bytesOf longAt beforeNull longForm fronted frontOf rawOf walk walked partsOf inForce moreOf leastOf filled then behind allows obeyed ruled rulesIn recorded records sized nulled readable wholeRecords buffered kept counted cutTo textOf cutText slimRecords headBy slimBy wordsIn wordIn subWordIn rowOf slimOf bandsOf levelsOf idIn learnt rowFor keyOf isDue passedOver dueAfter dueAfterProfiles placeOf noted skipped entered enteredBy testedBy judgedBy seenBy seenIn closed judge misfit surveyed recordOf answered verdict values slimPart knownFrom slims slimsIn slimFrom slimAt titleText textAt titleIn titleAt slimWords slimCopy roomFor replied slimReply outputBy flatten flatMap digits decimal fit joined signed fixed signedFixed tenths setupIn further separated bytes named profileFilters bufferCodes numbersFrom levelField profileName numberEntry textEntry bufferColumn bandColumns bufferHeading recordRow recordCount recordRows texts whereThere threeIn filtersIn codesIn nameIn titleShown headLines resultLines spectrumLines statisticsLines stepIn widthIn bufferLines sheetLines sheetTexts progressIn askedFor sheetReply Sheet.replied Sheet.outputBy level bound titleOf handed partOf spectrumFilters results filterColumn bandName totalName resultHeading timeRow resultRow bandHeading bandRow totalRow classHeading classRow resultRows bandRows totalRows levelRows classRows timeIn resultRowIn bandsIn histogramIn fraction centihertz octaves thirds
-closed-lists = ((record { accepted = accepts-found _ refl; answer-is = refl; other = apart _ _ refl }, (record { accepted = accepts-found _ refl; answer-is = refl; other = apart _ _ refl }, (record { accepted = accepts-found _ refl; answer-is = refl; other = apart _ _ refl }, (record { accepted = accepts-found _ refl; answer-is = refl; other = apart _ _ refl }, (record { accepted = accepts-found _ refl; answer-is = refl; other = apart _ _ refl }, (record { accepted = accepts-found _ refl; answer-is = refl; other = apart _ _ refl }, (record { accepted = accepts-found _ refl; answer-is = refl; other = apart _ _ refl }, tt))))))), (refl, (refl, (refl, (refl, (apart _ _ refl, (apart _ _ refl, (apart _ _ refl, (apart _ _ refl, (refl, (refl, (refl, (refl, (refl, (refl, (refl, (refl, (refl, (refl, (refl, (refl, (refl, tt))))))))))))))))))))))
+unfolding same Walk.joined Sheet.values facts forbidden sheetOf levelParts longHistogram endBlock bufferParts unlucky octaveParts thirdParts bandParts untitledParts lent handedBack asked fileOf levelFile octaveFile thirdFile bandFile headParts resultsPart statisticsParts longer withRecords titled alone m945 later m953 measured resultRecord spectrumFrom octave953File dose953File spectrumParts doseParts sameParts octaveSpectrum thirdSpectrum classRecord histogram loggerPart recounted contents classesOf dueAfterResults accepts block01 block02 block03 block04 profile block05 block0F wordsOf bytesOf longAt beforeNull longForm fronted frontOf rawOf walk walked partsOf inForce moreOf leastOf filled then behind allows obeyed ruled rulesIn recorded records sized nulled readable wholeRecords buffered kept counted cutTo textOf cutText slimRecords headBy slimBy wordsIn wordIn subWordIn rowOf slimOf bandsOf levelsOf idIn learnt rowFor keyOf isDue passedOver dueAfter dueAfterProfiles placeOf noted skipped entered enteredBy testedBy judgedBy seenBy seenIn closed judge misfit surveyed recordOf answered verdict values slimPart knownFrom slims slimsIn slimFrom slimAt titleText textAt titleIn titleAt slimWords slimCopy roomFor replied slimReply outputBy flatten flatMap digits decimal fit joined signed fixed signedFixed tenths setupIn further separated bytes named profileFilters bufferCodes numbersFrom levelField profileName numberEntry textEntry bufferColumn bandColumns bufferHeading recordRow recordCount recordRows texts whereThere threeIn filtersIn codesIn nameIn titleShown headLines resultLines spectrumLines statisticsLines stepIn widthIn bufferLines sheetLines sheetTexts progressIn askedFor sheetReply Sheet.replied Sheet.outputBy level bound titleOf handed partOf spectrumFilters results filterColumn bandName totalName resultHeading timeRow resultRow bandHeading bandRow totalRow classHeading classRow resultRows bandRows totalRows levelRows classRows timeIn resultRowIn nominalIn spectrumFilterIn modelIn functionIn levelsIn timeRows spanRow lettered nameOf unitOf results945 results953 dose953 learntFrom bandPlace histogramIn fraction centihertz octaves thirds
+closed-lists = ((record { accepted = accepts-found _ refl; answer-is = refl; other = apart _ _ refl }, (record { accepted = accepts-found _ refl; answer-is = refl; other = apart _ _ refl }, (record { accepted = accepts-found _ refl; answer-is = refl; other = apart _ _ refl }, (record { accepted = accepts-found _ refl; answer-is = refl; other = apart _ _ refl }, (record { accepted = accepts-found _ refl; answer-is = refl; other = apart _ _ refl }, (record { accepted = accepts-found _ refl; answer-is = refl; other = apart _ _ refl }, (record { accepted = accepts-found _ refl; answer-is = refl; other = apart _ _ refl }, (record { accepted = accepts-found _ refl; answer-is = refl; other = apart _ _ refl }, tt)))))))), (refl, (refl, (refl, (refl, (refl, (refl, (refl, (refl, (refl, (refl, (apart _ _ refl, (apart _ _ refl, (apart _ _ refl, (apart _ _ refl, (apart _ _ refl, (refl, (refl, (refl, (refl, (refl, (refl, (refl, (refl, (refl, (refl, (refl, (refl, (refl, (refl, (refl, (refl, (refl, (refl, (refl, tt)))))))))))))))))))))))))))))))))))
 
 pub forbidden-change : AllChange forbidden
 forbidden-change = closed-lists .0

@@ -1,7 +1,7 @@
--- Accepted files of each kind, by their blocks: measurements of functions 1, 2 and 3 with statistics, and a buffer with bands. Each
--- is also there with words at the end of every table block and every profile record. Assumes nothing.
+-- Accepted files of each kind, by their blocks: measurements with statistics, of a 945's functions 1, 2 and 3 and of a 953's 1, 2 and
+-- 4, and a buffer with bands. Each is also there with words at the end of every table block and every profile record. Assumes nothing.
 use mathlib.Core.Bool.{Bool, true, _&&_}
-use mathlib.Core.List.{List, [], _∷_, _++_}
+use mathlib.Core.List.{List, [], _∷_, _++_, map}
 use Prim.Native.Nat.{ℕ, _+_, _*_}
 use lib.Dec.{ltb}
 use lib.ListN.{replicate}
@@ -37,19 +37,50 @@ withRecords more id word a b c =
 unfoldable pub titled : List ℕ → Part
 titled behind = alone (recounted (0x03 ∷ (0x6148 ∷ (0x6C6C ∷ behind))))
 
--- function, filter A and buffering on
-unfoldable pub setupBlock : ℕ → List ℕ
-setupBlock function = 0x04 ∷ (0 ∷ (0 ∷ (function ∷ (replicate 17 0 ++ (2 ∷ (0 ∷ []))))))
+-- the blocks in which the models differ, of least length: 02; 04 of a function, with filter A and buffering on; a profile with the
+-- model's own filter; and how many words a profile's results have behind the time
+pub record Model : Type 0 where
+  pub unit : List ℕ
+  pub setup : ℕ → List ℕ
+  pub profile : List ℕ
+  pub results : ℕ
 
--- the results of a profile: a time, and eleven levels from this one on
-unfoldable pub resultRecord : ℕ → List ℕ
-resultRecord level = 0x0E08 ∷ (90 ∷ (0 ∷ numbersFrom level 11))
+unfoldable pub m945 : Model
+m945 =
+    record {
+      unit = block02;
+      setup = λ function. 0x04 ∷ (0 ∷ (0 ∷ (function ∷ (replicate 17 0 ++ (2 ∷ (0 ∷ []))))));
+      profile = profile 1 1;
+      results = 11;
+    }
+
+-- of a 953 with this unit type and this filter in the third profile
+unfoldable pub later : ℕ → ℕ → Model
+later unit filter =
+    record {
+      unit = 0x02 ∷ (4321 ∷ (unit ∷ (604 ∷ replicate 6 0)));
+      setup = λ function. 0x04 ∷ (0 ∷ (0 ∷ (function ∷ (replicate 10 0 ++ (2 ∷ (1 ∷ replicate 12 0))))));
+      profile = profile filter 4;
+      results = 12;
+    }
+
+-- "0 Z"
+unfoldable pub m953 : Model
+m953 = later 953 0
+
+-- the results of a profile: a time, and n words from this level on
+unfoldable pub resultRecord : ℕ → ℕ → List ℕ
+resultRecord n level = 0x08 ∷ (90 ∷ (0 ∷ numbersFrom level n))
 
 unfoldable pub octaveSpectrum : List ℕ
 octaveSpectrum = 0x0E ∷ (0x0101 ∷ (100 ∷ (15 ∷ (3 ∷ numbersFrom 600 18))))
 
 unfoldable pub thirdSpectrum : List ℕ
 thirdSpectrum = 0x10 ∷ (0x0101 ∷ (80 ∷ (45 ∷ (3 ∷ numbersFrom 500 48))))
+
+-- a 953's, of n bands from 31.5 Hz on
+unfoldable pub spectrumFrom : ℕ → List ℕ
+spectrumFrom n = 0x0E ∷ (0x0101 ∷ (3150 ∷ (n ∷ (3 ∷ numbersFrom 600 (n + 3)))))
 
 -- the classes of a profile, from 24.0 dB on, 1.0 dB wide
 unfoldable pub classRecord : ℕ → List ℕ
@@ -70,30 +101,44 @@ loggerPart more =
 -- ---- files
 
 -- the blocks up to 05, with these words from the title's null on
-unfoldable pub headParts : List ℕ → List ℕ → ℕ → List Part
-headParts more behind function =
+unfoldable pub headParts : Model → ℕ → List ℕ → List ℕ → List Part
+headParts m function more behind =
     longer more block01
-    ∷ longer more block02
+    ∷ longer more (m .unit)
     ∷ titled behind
-    ∷ longer more (setupBlock function)
-    ∷ withRecords more 0x05 0x0307 (profile 2 4) (profile 3 0) (profile 1 1)
+    ∷ longer more (m .setup function)
+    ∷ withRecords more 0x05 0x0307 (profile 2 4) (profile 3 0) (m .profile)
     ∷ []
 
-unfoldable pub resultsPart : List ℕ → Part
-resultsPart more = withRecords more 0x07 0x0307 (resultRecord 650) (resultRecord 0xFFF0) (resultRecord 0x8000)
+unfoldable pub resultsPart : ℕ → List ℕ → Part
+resultsPart n more = withRecords more 0x07 0x0307 (resultRecord n 650) (resultRecord n 0xFFF0) (resultRecord n 0x8000)
 
 unfoldable pub statisticsParts : List ℕ → List Part
 statisticsParts more =
     withRecords more 0x09 0x0703 (classRecord 2) (classRecord 2) (classRecord 2) ∷ histogram 1 17 0 ∷ histogram 2 0 3 ∷ histogram 4 5 6 ∷ []
 
+-- a measurement: the results, the spectrum or none, and statistics
+unfoldable pub measured : Model → ℕ → List (List ℕ) → List ℕ → List ℕ → List Part
+measured m function spectrum more behind =
+    headParts m function more behind ++ (resultsPart (m .results) more ∷ map (longer more) spectrum ++ statisticsParts more)
+
 unfoldable pub levelFile : List ℕ → List ℕ → List Part
-levelFile more behind = headParts more behind 1 ++ (resultsPart more ∷ statisticsParts more)
+levelFile = measured m945 1 []
 
 unfoldable pub octaveFile : List ℕ → List ℕ → List Part
-octaveFile more behind = headParts more behind 2 ++ (resultsPart more ∷ longer more octaveSpectrum ∷ statisticsParts more)
+octaveFile = measured m945 2 (octaveSpectrum ∷ [])
 
 unfoldable pub thirdFile : List ℕ → List ℕ → List Part
-thirdFile more behind = headParts more behind 3 ++ (resultsPart more ∷ longer more thirdSpectrum ∷ statisticsParts more)
+thirdFile = measured m945 3 (thirdSpectrum ∷ [])
 
 unfoldable pub bandFile : List ℕ → List ℕ → List Part
-bandFile more behind = headParts more behind 2 ++ (loggerPart more ∷ [])
+bandFile more behind = headParts m945 2 more behind ++ (loggerPart more ∷ [])
+
+unfoldable pub level953File : List ℕ → List ℕ → List Part
+level953File = measured m953 1 []
+
+unfoldable pub octave953File : ℕ → List ℕ → List ℕ → List Part
+octave953File n = measured m953 2 (spectrumFrom n ∷ [])
+
+unfoldable pub dose953File : List ℕ → List ℕ → List Part
+dose953File = measured m953 4 []

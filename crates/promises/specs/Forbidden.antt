@@ -10,7 +10,7 @@ use Rattle.grammar.specs.Grammar.{Accepts}
 use Rattle.pages.specs.Sheet.{sheetTexts}
 use Rattle.sheets.specs.Reply.{sheetReply, outputBy}
 use Rattle.cases.specs.Cases.{block01, block02, block03, block04, block05, block0F, contents}
-use Rattle.promises.specs.Files.{fileOf, alone, levelFile}
+use Rattle.promises.specs.Files.{fileOf, alone, levelFile, octave953File}
 
 -- the text that Sheet writes for a file, with an empty label and all the room that it needs
 unfoldable pub sheetOf : List ℕ → List ℕ
@@ -73,4 +73,10 @@ forbidden =
     ∷ record { file = fileOf levelParts; changed = fileOf (levelParts ++ (endBlock ∷ [])); answer = 9 ∷ (142 ∷ []) }
     -- "ids we don't list"
     ∷ record { file = fileOf levelParts; changed = fileOf (levelParts ++ (alone block01 ∷ [])); answer = 4 ∷ (141 ∷ []) }
+    -- "counts set to match" are those of words: a 953's 0E with a band more, and its number of bands one higher, is another spectrum
+    ∷ record {
+      file = fileOf (octave953File 9 [] (0 ∷ []));
+      changed = fileOf (octave953File 10 [] (0 ∷ []));
+      answer = 0 ∷ (2 ∷ (0 ∷ (12 ∷ (22 ∷ (26 ∷ (54 ∷ (74 ∷ (121 ∷ (139 ∷ (absent ∷ []))))))))));
+    }
     ∷ []

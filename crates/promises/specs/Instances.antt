@@ -6,7 +6,7 @@ use Prim.Native.Nat.{ℕ}
 use Rattle.blocks.specs.Walk.{Part}
 use Rattle.grammar.specs.Grammar.{Accepts}
 use Rattle.additions.specs.Additions.{Added}
-use Rattle.promises.specs.Files.{fileOf, areBytes, alone, levelFile, octaveFile, thirdFile, bandFile}
+use Rattle.promises.specs.Files.{fileOf, areBytes, alone, levelFile, octaveFile, thirdFile, bandFile, level953File, octave953File, dose953File}
 
 pub record Instance : Type 0 where
   pub before : List Part
@@ -45,4 +45,12 @@ unfoldable pub grown : (List ℕ → List ℕ → List Part) → Instance
 grown file = record { before = file [] (0 ∷ []); after = behindHeader (file words (0x5A00 ∷ (0x2121 ∷ []))) }
 
 unfoldable pub instances : List Instance
-instances = grown levelFile ∷ grown octaveFile ∷ grown thirdFile ∷ grown bandFile ∷ []
+instances =
+    grown levelFile
+    ∷ grown octaveFile
+    ∷ grown thirdFile
+    ∷ grown bandFile
+    ∷ grown level953File
+    ∷ grown (octave953File 10)
+    ∷ grown dose953File
+    ∷ []

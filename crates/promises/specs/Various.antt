@@ -13,7 +13,7 @@ use Rattle.slims.specs.Copy.{slimCopy}
 use Rattle.pages.specs.Sheet.{sheetTexts}
 use Rattle.sheets.specs.Reply.{sheetReply}
 use Rattle.sheets.specs.Reply as Sheet
-use Rattle.promises.specs.Files.{fileOf, alone, octaveFile, thirdFile, bandFile}
+use Rattle.promises.specs.Files.{fileOf, alone, later, measured, octaveFile, thirdFile, bandFile, octave953File, dose953File}
 use Rattle.promises.specs.Forbidden.{sheetOf, levelParts}
 
 -- two texts, or two lists of numbers
@@ -39,6 +39,16 @@ thirdParts = thirdFile [] (0 ∷ [])
 
 unfoldable pub bandParts : List Part
 bandParts = bandFile [] (0 ∷ [])
+
+unfoldable pub spectrumParts : List Part
+spectrumParts = octave953File 10 [] (0 ∷ [])
+
+unfoldable pub doseParts : List Part
+doseParts = dose953File [] (0 ∷ [])
+
+-- the blocks of a 953's measurement of function 1, with filters that both models have, as this model's
+unfoldable pub sameParts : ℕ → List Part
+sameParts model = measured (later model 2) 1 [] [] (0 ∷ [])
 
 -- the measurement of function 1 with an empty title
 unfoldable pub untitledParts : List Part
@@ -67,6 +77,14 @@ facts =
     ∷ is (values (verdict (fileOf octaveParts))) (0 ∷ (2 ∷ (0 ∷ (12 ∷ (18 ∷ (22 ∷ (45 ∷ (65 ∷ (109 ∷ (132 ∷ (absent ∷ [])))))))))))
     ∷ is (values (verdict (fileOf thirdParts))) (0 ∷ (3 ∷ (0 ∷ (12 ∷ (18 ∷ (22 ∷ (45 ∷ (65 ∷ (109 ∷ (162 ∷ (absent ∷ [])))))))))))
     ∷ is (values (verdict (fileOf bandParts))) (0 ∷ (2 ∷ (0 ∷ (12 ∷ (18 ∷ (22 ∷ (45 ∷ (absent ∷ (absent ∷ (absent ∷ (65 ∷ [])))))))))))
+    ∷ is (values (verdict (fileOf spectrumParts))) (0 ∷ (2 ∷ (0 ∷ (12 ∷ (22 ∷ (26 ∷ (54 ∷ (74 ∷ (121 ∷ (139 ∷ (absent ∷ [])))))))))))
+    ∷ is (values (verdict (fileOf doseParts))) (0 ∷ (4 ∷ (0 ∷ (12 ∷ (22 ∷ (26 ∷ (54 ∷ (74 ∷ (absent ∷ (121 ∷ (absent ∷ [])))))))))))
+    -- the same blocks, read by the model in block 02: both are accepted, with different sheets
+    ∷ is (values (verdict (fileOf (sameParts 945)))) (0 ∷ (1 ∷ (0 ∷ (12 ∷ (22 ∷ (26 ∷ (54 ∷ (74 ∷ (absent ∷ (121 ∷ (absent ∷ [])))))))))))
+    ∷ is (values (verdict (fileOf (sameParts 953)))) (0 ∷ (1 ∷ (0 ∷ (12 ∷ (22 ∷ (26 ∷ (54 ∷ (74 ∷ (absent ∷ (121 ∷ (absent ∷ [])))))))))))
+    ∷ is (getD (sheetTexts (fileOf (sameParts 945)) []) 9 []) (ascii "MAX,dB,65.1,-1.5,-3276.7\n")
+    ∷ is (getD (sheetTexts (fileOf (sameParts 953)) []) 10 []) (ascii "MAX,dB,65.2,-1.4,-3276.6\n")
+    ∷ differ (sheetOf (fileOf (sameParts 945))) (sheetOf (fileOf (sameParts 953)))
     -- different sheets, and different slim copies
     ∷ differ (sheetOf (fileOf levelParts)) (sheetOf (fileOf octaveParts))
     ∷ differ (sheetOf (fileOf thirdParts)) (sheetOf (fileOf bandParts))
@@ -79,6 +97,12 @@ facts =
     ∷ is (getD (sheetTexts (fileOf levelParts) []) 0 []) (ascii "unit=945\n")
     ∷ is (getD (sheetTexts (fileOf levelParts) []) 6 []) (ascii "result,unit,P1 A,P2 C,P3 Lin\n")
     ∷ is (getD (sheetTexts (fileOf levelParts) []) 25 []) (ascii "P3,25.0,65542\n")
+    ∷ is (getD (sheetTexts (fileOf doseParts) []) 0 []) (ascii "unit=953\n")
+    ∷ is (getD (sheetTexts (fileOf doseParts) []) 6 []) (ascii "result,unit,P1 A,P2 C,P3 Z\n")
+    ∷ is (getD (sheetTexts (fileOf doseParts) []) 8 []) (ascii "overload,s,90,,\n")
+    ∷ is (getD (sheetTexts (fileOf doseParts) []) 18 []) (ascii "TLAV,dB,66.0,-0.6,-3275.8\n")
+    ∷ is (getD (sheetTexts (fileOf spectrumParts) []) 18 []) (ascii "1,31.5,60.0\n")
+    ∷ is (getD (sheetTexts (fileOf spectrumParts) []) 28 []) (ascii "T1,,61.0\n")
     -- lines, bytes and whether it is finished, by the line number and the room
     ∷ is (asked (fileOf thirdParts) 0 0 65536) (0 ∷ (0 ∷ (75 ∷ (1057 ∷ (1 ∷ [])))))
     ∷ is (asked (fileOf thirdParts) 0 0 1024) (0 ∷ (0 ∷ (72 ∷ (1019 ∷ (0 ∷ [])))))

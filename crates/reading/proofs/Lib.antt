@@ -5,5 +5,5 @@ pub mod SetupLaws
 pub mod ClassLaws
 pub mod ReadLaws
 pub mod TitleBrief
-pub mod ModelLaws
 pub mod SpectrumLaws
+pub mod LoggerLaws

@@ -17,6 +17,7 @@ use Rattle.blocks.proofs.Fronts.{front-cuts}
 use Rattle.rules.specs.Block.{nulled, readable}
 use Rattle.rules.specs.Slim.{Slim, cutText, headBy, slimBy}
 use Rattle.rules.proofs.BlockLaws.{kept-says, kept-short}
+use Rattle.tables.specs.declared.setup.Setup.{Setup}
 use Rattle.tables.specs.Table.{rowOf, kindOf}
 use Rattle.tables.specs.Setup.{slimOf}
 use Rattle.tables.proofs.TableLaws.{row-exact, row-text, row-at}
@@ -49,8 +50,8 @@ short-few ws n f l small = go (front-cuts ws n f .size)
     go (inl (t, two, k)) = absurd (false≢true (sym l ∙ t))
     go (inr (t, k)) = omega arith
 
-module _ {ws : List ℕ} (small : Below 65536 ws) {model start : ℕ} {x : Slim} where
-  title-block : There ws model 0x03 start x → (length (blockAt ws start) ≤ 255) × (nulled (drop 1 (blockAt ws start)) ≡ true)
+module _ {ws : List ℕ} (small : Below 65536 ws) {last : Setup} {start : ℕ} {x : Slim} where
+  title-block : There ws last 0x03 start x → (length (blockAt ws start) ≤ 255) × (nulled (drop 1 (blockAt ws start)) ≡ true)
   unfolding readable longForm rowOf
   title-block t =
       let b = blockAt ws start in
@@ -64,7 +65,7 @@ module _ {ws : List ℕ} (small : Below 65536 ws) {model start : ℕ} {x : Slim}
       let short : longForm w ≡ false = simp (ne-eqb (high w) 0 (kept-short kept exact), id) in
       (short-few (drop start ws) (length b) (t .front) (rw first at short) (below-drop start ws small 0), rw text at (kept .null))
 
-  found-brief : Found ws model 0x03 start x → length (beforeNull (bytesOf (drop 1 (x .head)))) ≤ 507
+  found-brief : Found ws last 0x03 start x → length (beforeNull (bytesOf (drop 1 (x .head)))) ≤ 507
   unfolding slimOf slimBy headBy cutText rowOf beforeNull bytesOf
   found-brief (there t) =
       let b = blockAt ws start in

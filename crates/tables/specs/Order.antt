@@ -4,6 +4,7 @@ use Prim.Native.Nat.{ℕ}
 use lib.Dec.{eqb}
 use Rattle.words.specs.Words.{low}
 use Rattle.blocks.specs.Walk.{endMarker}
+use Rattle.models.specs.Models.{columns}
 use Rattle.tables.specs.declared.setup.Setup.{Setup}
 use Rattle.tables.specs.declared.order.Due.{Due}
 
@@ -35,7 +36,7 @@ dueAfterResults function = cond (eqb function 2) (only 0x0E) (cond (eqb function
 
 -- "then either 0F with its contents, or 07"; "a 953 file with 0F is 4"
 unfoldable pub dueAfterProfiles : ℕ → Due
-dueAfterProfiles model = cond (eqb model 953) (only 0x07) (either 0x0F 0x07)
+dueAfterProfiles model = columns model (either 0x0F 0x07) (only 0x07)
 
 -- "01 (at word 0), 02, 03, 04, 05; then either 0F with its contents, or 07, .. then optionally 09 followed by three 0B with nn
 -- 01, 02, 04. Then the end marker"

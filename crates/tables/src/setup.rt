@@ -7,7 +7,9 @@ use rules::record_word;
 use words::word;
 ghost use mathlib.Core.Path.{_≡_};
 ghost use mathlib.Core.List.{[]};
+ghost use lib.ListN.{getD};
 ghost use Rattle.words.specs.Words.{wordsOf};
+ghost use Rattle.models.specs.Models.{columns};
 ghost use Rattle.tables.specs.Setup.{bandsOf, levelsOf, noSetup, classesOf, learnt, slimOf, rowFor, profileLevels};
 
 // What later blocks depend on: the model, the function, the levels of bands and of profiles in a buffer record, the numbers of classes.
@@ -33,6 +35,16 @@ fn bands_of(function: u16, buffering: u16) -> u16
         3 => 48,
         _ => 0,
     }
+}
+
+// The same by the settings. A 953's files are of measurements only.
+fn bands_in(model: u16, b: &[u8]) -> u16
+    ensures { λ r. ⌜ r ≡ columns model (bandsOf (getD (wordsOf (now (b .entry))) 3 0) (getD (wordsOf (now (b .entry))) 22 0)) 0 ⌝ }
+{
+    if model == 953 {
+        return 0;
+    }
+    bands_of(word(b, 3), word(b, 22))
 }
 
 // The levels of a profile in a buffer record, by its buffer code.
@@ -101,9 +113,8 @@ impl Setup {
                 known
             }
             0x04 => {
-                let function = word(b, 3);
-                known.function = function;
-                known.bands = bands_of(function, word(b, 22));
+                known.function = word(b, 3);
+                known.bands = bands_in(self.model, b);
                 known
             }
             0x05 => {

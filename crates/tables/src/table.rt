@@ -8,7 +8,7 @@ use rules::Subs;
 ghost use mathlib.Core.Path.{_≡_};
 ghost use mathlib.Core.List.{[], _∷_};
 ghost use Prim.Native.Nat.{_+_};
-ghost use Rattle.tables.specs.Table.{rule, within, equals, oneOf, also, noRule, rules, subBlocks, noSubs, tableRow, row02, row03, row04, row05, row07, row0E, row10, row09, row0B, unlisted, bandRules, row0F, rowOf};
+ghost use Rattle.tables.specs.Table.{rule, within, equals, oneOf, eitherOf, also, noRule, rules, subBlocks, noSubs, tableRow, row02, row03, row04, row05, row07, row0E, row10, row09, row0B, unlisted, bandRules, row0F, rowOf};
 ghost use Rattle.rules.specs.declared.More.the-variants.{Nothing};
 
 // ---- rules and rows
@@ -42,6 +42,12 @@ fn one_of(off: u16, one: u16, two: u16, three: u16, num: u8) -> Rule
     ensures { λ r. ⌜ r ≡ oneOf off one two three num ⌝ }
 {
     rule(off, Kind::OneOf { one, two, three }, num)
+}
+
+fn either_of(off: u16, one: u16, two: u16, num: u8) -> Rule
+    ensures { λ r. ⌜ r ≡ eitherOf off one two num ⌝ }
+{
+    one_of(off, one, two, two, num)
 }
 
 // Asked only where the function is `from` to `upto`.
@@ -152,13 +158,13 @@ fn plain(least: usize, rules: Rules) -> Row
 
 // ---- the rows
 
-// Tab. B.1.2, unit and software specification. Request T-01 lets the 953 in; until then no file reaches a 953's column.
+// Tab. B.1.2, unit and software specification. A 953's has 10 words.
 fn unit() -> Row
     ensures { λ r. ⌜ r ≡ row02 ⌝ }
 {
     row(
         6,
-        one(equals(2, 945, 5)),
+        one(either_of(2, 945, 953, 5)),
         More::Where {
             at: 2,
             is: 953,

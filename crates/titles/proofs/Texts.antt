@@ -12,6 +12,7 @@ use Rattle.text.specs.Text.{beforeNull}
 use Rattle.rules.specs.Block.{nulled, readable}
 use Rattle.rules.specs.Slim.{Slim, textOf, cutText, headBy, slimBy}
 use Rattle.rules.proofs.BlockLaws.{kept-says}
+use Rattle.tables.specs.declared.setup.Setup.{Setup}
 use Rattle.tables.specs.Table.{kindOf}
 use Rattle.tables.specs.Setup.{rowFor, slimOf}
 use Rattle.tables.proofs.TableLaws.{row-exact, row-text}
@@ -54,9 +55,9 @@ block-text (w ∷ b) vs e = text-within b vs e
 -- ---- the text of a block that was found
 
 -- the files that may be accepted have 32,768 words at most
-module _ {ws : List ℕ} (few : length ws ≤ 32768) {model start : ℕ} {x : Slim} where
+module _ {ws : List ℕ} (few : length ws ≤ 32768) {last : Setup} {start : ℕ} {x : Slim} where
   -- a text, read from word 1 of its block on in the file, and in the block's slim form
-  pub found-text : (id : ℕ) → id < 256 → (id ≡ 0x0B → ⊥) → (id ≡ 0x0E → ⊥) → kindOf id .exact ≡ false → kindOf id .text ≡ true → Found ws model id start x
+  pub found-text : (id : ℕ) → id < 256 → (id ≡ 0x0B → ⊥) → (id ≡ 0x0E → ⊥) → kindOf id .exact ≡ false → kindOf id .text ≡ true → Found ws last id start x
       → beforeNull (bytesOf (drop (start + 1) ws)) ≡ beforeNull (bytesOf (drop 1 (x .head)))
   unfolding readable slimOf slimBy headBy cutText
   found-text id small b e ex tx (there t) =

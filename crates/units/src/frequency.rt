@@ -6,7 +6,7 @@ ghost use mathlib.Core.Path.{_≡_};
 ghost use Prim.Native.Nat.{_≤_, _<_};
 ghost use lib.ListN.{length};
 ghost use Rattle.text.specs.Text.{Wrote};
-ghost use Rattle.units.specs.Frequency.{fraction, centihertz, thirds};
+ghost use Rattle.units.specs.Frequency.{fraction, centihertz, octaves, thirds, bandPlace};
 
 // Hundredths of a hertz.
 pub struct Centihertz(pub u32);
@@ -91,4 +91,23 @@ pub fn thirds() -> [Centihertz; 45]
     ensures { λ r. ⌜ r ≡ thirds ⌝ }
 {
     THIRDS
+}
+
+// The place of a band of w hundredths of a hertz on the list of 1/1 octaves, or the list's length. A word holds the first ten.
+pub fn octave_place(w: u16) -> u16
+    ensures { λ r. ⌜ r ≡ bandPlace w octaves ⌝ }
+{
+    match w {
+        100 => 0,
+        200 => 1,
+        400 => 2,
+        800 => 3,
+        1600 => 4,
+        3150 => 5,
+        6300 => 6,
+        12500 => 7,
+        25000 => 8,
+        50000 => 9,
+        _ => 15,
+    }
 }

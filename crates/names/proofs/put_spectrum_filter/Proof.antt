@@ -1,30 +1,17 @@
--- `put_spectrum_filter` meets its contract: each arm writes the name of its key. Assumes nothing.
+-- `put_spectrum_filter` meets its contract: the model picks the table. Assumes nothing.
 use borrow.Author.Needs.{needs}
-use native.Mathlib.Omega.{arith}
-use Rattle.names.specs.Names.{named, spectrumFilters}
-use Rattle.names.proofs.NameLaws.{keyed, unkeyed}
+use borrow.Author.Tests.{eq-eqb, ne-eqb}
+use Rattle.names.specs.Names.{spectrumFilters}
 use Rattle.names.proofs.put_spectrum_filter.Statement.{statement}
 use Rattle.names.proofs.put_spectrum_filter.Tie as tie
 
 returns : tie.Need-returns
-unfolding named spectrumFilters
-returns c = let a = c .before .before in keyed spectrumFilters 0 (a .before .before .before .before .before .args .code) (omega arith) (a .put-bytes .ensures) (omega arith)
+unfolding spectrumFilters
+returns c = let a = c .before .before in rw (eq-eqb _ 953 (a .before .before .if1 .taken)) (a .put-profile-filter .ensures)
 
 returns-2 : tie.Need-returns-2
-unfolding named spectrumFilters
-returns-2 c = let a = c .before .before in keyed spectrumFilters 1 (a .before .before .before .before .before .args .code) (omega arith) (a .put-bytes2 .ensures) (omega arith)
-
-returns-3 : tie.Need-returns-3
-unfolding named spectrumFilters
-returns-3 c = let a = c .before .before in keyed spectrumFilters 2 (a .before .before .before .before .before .args .code) (omega arith) (a .put-bytes3 .ensures) (omega arith)
-
-returns-4 : tie.Need-returns-4
-unfolding named spectrumFilters
-returns-4 c = let a = c .before .before in keyed spectrumFilters 3 (a .before .before .before .before .before .args .code) (omega arith) (a .put-bytes4 .ensures) (omega arith)
-
-returns-5 : tie.Need-returns-5
 unfolding spectrumFilters
-returns-5 c = unkeyed spectrumFilters (c .before .before .args .code) _ (c .match .rest)
+returns-2 c = let a = c .before .before in rw (ne-eqb _ 953 (a .before .before .if1 .left)) (a .put-octave-filter .ensures)
 
 pub put-spectrum-filter-spec : {M : Type 1} → statement M
-put-spectrum-filter-spec = tie.close (tie.spec (λ c. search needs) (λ c κs. search needs) (λ c. search needs) (λ c κs. search needs) (λ c. search needs) (λ c κs. search needs) (λ c. search needs) (λ c κs. search needs) (λ c. search needs) returns (λ c. search needs) returns-2 (λ c. search needs) returns-3 (λ c. search needs) returns-4 returns-5)
+put-spectrum-filter-spec = tie.close (tie.spec (λ c κs. search needs) (λ c. search needs) returns (λ c κs. search needs) (λ c. search needs) returns-2)

@@ -15,10 +15,10 @@ returns c =
 
 returns-2 : tie.Need-returns-2
 returns-2 c =
-    let w = c .before .before .before .before in
+    let w = c .before .before .before in
     let a = w .before .before .args in
-    rw (c .bands-of .ensures, c .before .word4 .ensures, c .before .before .word3 .ensures)
-    (sym (learnt-04 (a .self) (wordsOf (a .b .now)) [] (ap low (sym (w .word .ensures)) ∙ c .before .before .before .match .keys2)))
+    rw (c .bands-in .ensures, c .before .word3 .ensures)
+    (sym (learnt-04 (a .self) (wordsOf (a .b .now)) [] (ap low (sym (w .word .ensures)) ∙ c .before .before .match .keys2)))
 
 returns-3 : tie.Need-returns-3
 returns-3 c =
@@ -42,4 +42,4 @@ returns-5 c =
     sym (learnt-none (a .self) (wordsOf (a .b .now)) [] (λ z. m .0 .0 .0 .1 (e ∙ z)) (λ z. m .0 .0 .1 (e ∙ z)) (λ z. m .0 .1 (e ∙ z)) (λ z. m .1 (e ∙ z)))
 
 pub learnt-spec : {M : Type 1} → statement M
-learnt-spec = tie.close (tie.spec (λ c κs. search needs) (λ c κs. search needs) (λ c κs. search needs) (λ c κs. search needs) (λ c κs. search needs) (λ c κs. search needs) (λ c κs. search needs) (λ c κs. search needs) (λ c κs. search needs) returns returns-2 returns-3 returns-4 returns-5)
+learnt-spec = tie.close (tie.spec (λ c κs. search needs) (λ c κs. search needs) (λ c κs. search needs) (λ c κs. search needs) (λ c κs. search needs) (λ c κs. search needs) (λ c κs. search needs) (λ c κs. search needs) returns returns-2 returns-3 returns-4 returns-5)

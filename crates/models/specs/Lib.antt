@@ -1,0 +1,2 @@
+-- What the definitions of other crates cite. Assumes nothing.
+pub mod Models

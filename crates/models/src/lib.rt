@@ -1,0 +1,1 @@
+// No code: the models that are read. See specs/Models.antt.
