@@ -42,7 +42,7 @@ pub fn compare_file(own_seed: u64, exact: bool, tally: &mut Tally) -> Result<(),
     let meter = Meter { nowhere: nowhere(&mut random) };
     let mut compare = Compare { random, meter, exact, tally };
     let record = reading::check(&case.file);
-    compare.tally.file(&case.file, &record);
+    compare.tally.file(&case.file);
     let label = label(&mut compare.random);
     let subject = compare.subject(case.file, label);
     if case.sound && record.is_err() {
@@ -214,7 +214,7 @@ impl Compare<'_> {
         longer.same("slim, additions", second, first)?;
         longer.same("slim, additions", first.refusal, 0)?;
         longer.same_bytes("slim, additions", &second_bytes, &first_bytes)?;
-        self.tally.additions += 1;
+        self.tally.addition(&subject.file);
         Ok(())
     }
 

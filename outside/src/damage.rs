@@ -1,8 +1,9 @@
 //! Damages to accepted files, and files that never were good.
 
-use crate::check::{least, least_sub, LISTED};
+use crate::check::{least, least_sub, Model, LISTED, LOWEST};
 use crate::files::{
-    accepted, any_words, bytes, fill_up, header, other_block, other_id, sub_start, Draft, Kind, Piece, MOST_WORDS,
+    accepted, any_words, bands_left, bytes, fill_up, header, other_block, other_id, sub_start, switch_unit_type, Draft,
+    Kind, Piece, MOST_WORDS,
 };
 use crate::random::Random;
 
@@ -29,24 +30,29 @@ fn damage(random: &mut Random, draft: &mut Draft) {
     if draft.pieces.is_empty() {
         return;
     }
-    match random.below(23) {
-        0..=4 => change_checked_word(random, draft),
-        5 => remove(random, draft),
-        6 => double(random, draft),
-        7 => swap(random, draft),
-        8 => change_id(random, draft),
-        9 => change_count(random, draft),
-        10 | 11 => change_size(random, draft),
-        12 => long_form(random, draft),
-        13 | 14 => damage_sub(random, draft),
-        15 => damage_end(random, draft),
-        16 => change_buffer_length(random, draft),
-        17 => damage_title(random, draft),
-        18 => stub(random, draft),
-        19 => bad_block(random, draft),
-        20 => change_mask(random, draft),
-        21 => foreign(random, draft),
-        _ => change_contents(random, draft),
+    match random.below(48) {
+        0..=5 => change_checked_word(random, draft),
+        6 => remove(random, draft),
+        7 => double(random, draft),
+        8 => swap(random, draft),
+        9 => change_id(random, draft),
+        10 => change_count(random, draft),
+        11..=13 => change_size(random, draft),
+        14..=17 => long_form(random, draft),
+        18..=21 => damage_sub(random, draft),
+        22 => damage_end(random, draft),
+        23 | 24 => change_buffer_length(random, draft),
+        25 => damage_title(random, draft),
+        26..=29 => stub(random, draft),
+        30..=32 => bad_block(random, draft),
+        33 => change_mask(random, draft),
+        34 => foreign(random, draft),
+        35 => change_contents(random, draft),
+        36 => switch_unit_type(draft),
+        37 => damage_unit(random, draft),
+        38..=42 => damage_octaves(random, draft),
+        43..=45 => damage_settings(random, draft),
+        _ => never_due(random, draft),
     }
 }
 
@@ -64,30 +70,44 @@ fn listed(random: &mut Random, draft: &Draft) -> usize {
     random.pick(&all)
 }
 
-/// The offsets of the words that 01 checks or reads the structure from.
-fn checked_words(piece: &Piece) -> Vec<usize> {
+/// A word that the documents check or read the structure from, and values that one model has or its neighbours.
+type Checked = (usize, &'static [u16]);
+
+const UNIT_TYPES: &[u16] = &[944, 945, 946, 952, 953, 954, 957, 959];
+const FUNCTIONS: &[u16] = &[0, 1, 2, 3, 4, 5];
+const SPECTRUM_FILTERS: &[u16] = &[0, 1, 1, 4, 4];
+const BUFFERINGS: &[u16] = &[0, 1, 2];
+const PROFILE_FILTERS: &[u16] = &[0, 1, 4, 5];
+const BUFFER_CODES: &[u16] = &[4, 5, 15, 16, 17, 0x0100];
+
+fn checked_words(model: Model, piece: &Piece) -> Vec<Checked> {
     let id = match piece.kind {
         Kind::Listed(id) => id,
         _ => 0,
     };
-    let mut offsets = match id {
-        0x02 => vec![0, 2, 2, 2],
-        0x04 => vec![0, 3, 3, 21, 21, 22, 22],
-        0x0E | 0x10 => vec![0, 1, 2, 3, 4],
-        0x0F => vec![0, 3, 4, 5, 6, 7],
-        _ => vec![0, 1],
+    let mut checked: Vec<Checked> = match id {
+        0x02 => vec![(0, &[]), (2, UNIT_TYPES), (2, UNIT_TYPES), (2, UNIT_TYPES)],
+        0x04 => {
+            let (filter, buffering) = if model == Model::Svan953 { (14, 15) } else { (21, 22) };
+            let both = [(filter, SPECTRUM_FILTERS), (buffering, BUFFERINGS)];
+            [vec![(0, &[][..]), (3, FUNCTIONS), (3, FUNCTIONS)], both.repeat(2)].concat()
+        }
+        0x0E | 0x10 => (0..5).map(|offset| (offset, &[][..])).collect(),
+        0x0F => [0, 3, 4, 5, 6, 7].map(|offset| (offset, &[][..])).to_vec(),
+        _ => vec![(0, &[]), (1, &[])],
     };
-    if least_sub(id).is_some() {
+    if least_sub(model, id).is_some() {
+        checked.extend([(1, &[][..]); 2]);
         for sub in 0..3 {
             let start = sub_start(&piece.words, sub);
-            offsets.extend([start, start + 1]);
+            checked.extend([(start, &[][..]), (start + 1, &[][..])]);
             if id == 0x05 {
-                offsets.extend([start + 2, start + 2, start + 3, start + 3]);
+                checked.extend([(start + 2, PROFILE_FILTERS), (start + 3, BUFFER_CODES)].repeat(2));
             }
         }
     }
-    offsets.retain(|offset| *offset < piece.words.len());
-    offsets
+    checked.retain(|(offset, _)| *offset < piece.words.len());
+    checked
 }
 
 /// Another value for a word: near, at a boundary, a small one, or any.
@@ -106,16 +126,13 @@ fn changed(random: &mut Random, word: u16) -> u16 {
 
 fn change_checked_word(random: &mut Random, draft: &mut Draft) {
     let index = if random.one_in(10) { random.below(draft.pieces.len()) } else { listed(random, draft) };
-    let offsets = checked_words(&draft.pieces[index]);
-    if offsets.is_empty() {
+    let checked = checked_words(draft.model, &draft.pieces[index]);
+    if checked.is_empty() {
         return;
     }
-    let offset = random.pick(&offsets);
-    let piece = &mut draft.pieces[index];
-    piece.words[offset] = match (piece.kind, offset) {
-        (Kind::Listed(0x02), 2) if random.one_in(2) => random.pick(&[944, 946, 953, 957, 959]),
-        _ => changed(random, piece.words[offset]),
-    };
+    let (offset, values) = random.pick(&checked);
+    let word = &mut draft.pieces[index].words[offset];
+    *word = if !values.is_empty() && random.one_in(2) { random.pick(values) } else { changed(random, *word) };
 }
 
 fn remove(random: &mut Random, draft: &mut Draft) {
@@ -192,7 +209,7 @@ fn change_size(random: &mut Random, draft: &mut Draft) {
         _ => words.len().saturating_sub(random.between(1, 3)).max(1),
     };
     let size = match draft.pieces[index].kind {
-        Kind::Listed(id) if random.one_in(2) => least(id) - 1,
+        Kind::Listed(id) if random.one_in(2) => least(draft.model, id) - 1,
         _ => size,
     };
     let words = &mut draft.pieces[index].words;
@@ -217,12 +234,12 @@ fn long_form(random: &mut Random, draft: &mut Draft) {
     }
     let count = words.len() as u16;
     if words.len() > 1 && !random.one_in(8) {
-        words[1] = random.pick(&[count, count, count, count + 1, 0, 1]);
+        words[1] = random.pick(&[count, count, count, count, count, count + 1, 0, 1]);
     }
 }
 
 fn damage_sub(random: &mut Random, draft: &mut Draft) {
-    let places: Vec<usize> = [0x05, 0x07, 0x09, 0x09].iter().filter_map(|id| draft.find(*id)).collect();
+    let places: Vec<usize> = [0x05, 0x07, 0x09, 0x09, 0x09].iter().filter_map(|id| draft.find(*id)).collect();
     if places.is_empty() {
         return;
     }
@@ -237,7 +254,7 @@ fn damage_sub(random: &mut Random, draft: &mut Draft) {
         return;
     };
     let [id, length] = first.to_le_bytes();
-    match random.below(8) {
+    match random.below(10) {
         0 => words[start] = first.wrapping_add(0x0100),
         1 => words[start] = first.wrapping_sub(0x0100),
         2 => words[start] = first & 0x00FF,
@@ -245,7 +262,7 @@ fn damage_sub(random: &mut Random, draft: &mut Draft) {
         4 => words[start] = first & 0xFF00 | random.pick(&[0x06, 0x08, 0x0A, 0xFF, 0x00, 0x86]),
         5 => words[start] = u16::from_le_bytes([id, random.byte()]),
         // A sub-block up to the block's end leaves no room for the next one.
-        6 => words[start] = header(id, words.len() - start),
+        6 | 7 => words[start] = header(id, words.len() - start),
         _ => {
             let end = (start + usize::from(length)).min(words.len());
             words.truncate(end);
@@ -313,15 +330,24 @@ fn damage_title(random: &mut Random, draft: &mut Draft) {
     }
 }
 
+/// A listed id, or at times 14, which has its length in word 1 too, or another.
+fn any_id(random: &mut Random) -> u8 {
+    match random.below(LISTED.len() + 3) {
+        0 | 1 => other_id(random),
+        2 => 0x14,
+        _ => random.pick(&LISTED),
+    }
+}
+
 /// A file that stops at a boundary, with a first word and perhaps a count left behind it.
 fn stub(random: &mut Random, draft: &mut Draft) {
     let place = random.below(draft.pieces.len());
     draft.pieces.truncate(place);
-    let id = if random.one_in(4) { other_id(random) } else { random.pick(&LISTED) };
-    let nn = if random.one_in(3) { random.below(60) } else { 0 };
+    let id = any_id(random);
+    let nn = if random.one_in(5) { random.below(60) } else { 0 };
     let mut words = vec![header(id, nn)];
-    if random.one_in(2) {
-        words.push(random.pick(&[0, 1, 2, 3, 65_535]));
+    if random.one_in(3) {
+        words.push(random.pick(&[0, 1, 2, 3, 3, 65_535]));
     }
     draft.pieces.push(Piece { kind: Kind::Other, words });
 }
@@ -329,10 +355,10 @@ fn stub(random: &mut Random, draft: &mut Draft) {
 /// A block that is no block at a boundary: in the long form under 2, or a listed one out of its place.
 fn bad_block(random: &mut Random, draft: &mut Draft) {
     let place = random.between(0, draft.pieces.len());
-    let id = if random.one_in(3) { other_id(random) } else { random.pick(&LISTED) };
-    let words = match random.below(3) {
-        0 => vec![header(id, 0), random.below(2) as u16],
-        1 => vec![header(id, random.pick(&[1, 2, 4])), random.below(3) as u16],
+    let id = any_id(random);
+    let words = match random.below(4) {
+        0 | 1 => vec![header(id, 0), random.below(2) as u16],
+        2 => vec![header(id, random.pick(&[1, 2, 4])), random.below(3) as u16],
         _ => vec![header(id, 2), 0],
     };
     draft.pieces.insert(place, Piece { kind: Kind::Other, words });
@@ -377,6 +403,95 @@ fn change_contents(random: &mut Random, draft: &mut Draft) {
     } else {
         piece.words.push(random.pick(&[0xFFFF, 0x0101, 0x0000]));
     }
+}
+
+/// One or two words of the settings, which each model reads in its own way.
+fn damage_settings(random: &mut Random, draft: &mut Draft) {
+    for _ in 0..random.between(1, 2) {
+        let Some(index) = draft.find(random.pick(&[0x04, 0x05])) else {
+            continue;
+        };
+        let mut checked = checked_words(draft.model, &draft.pieces[index]);
+        checked.retain(|(_, values)| !values.is_empty());
+        if checked.is_empty() {
+            continue;
+        }
+        let (offset, values) = random.pick(&checked);
+        draft.pieces[index].words[offset] = random.pick(values);
+    }
+}
+
+/// An 02 around its least lengths with any unit type: the two compete.
+fn damage_unit(random: &mut Random, draft: &mut Draft) {
+    let Some(index) = draft.find(0x02) else {
+        return;
+    };
+    let words = &mut draft.pieces[index].words;
+    let size = random.between(2, 11);
+    words.resize(size, random.word());
+    words[0] = header(0x02, if random.one_in(10) { 0 } else { size });
+    let any = random.word();
+    if let Some(unit_type) = words.get_mut(2) {
+        *unit_type = random.pick(&[945, 953, 953, 952, 954, 947, any]);
+    }
+}
+
+/// Frequencies off the list: next to it, of the 1/3 list, and what a word holds of 1000 Hz and more.
+const OFF_THE_LIST: [u16; 12] = [0, 80, 99, 101, 125, 3_149, 6_400, 34_464, 3_392, 6_784, 13_568, 27_136];
+
+/// A 953's 0E with faults in its length and its words: one, or two that compete.
+fn damage_octaves(random: &mut Random, draft: &mut Draft) {
+    let index = match draft.find(0x0E) {
+        Some(index) if draft.model == Model::Svan953 => index,
+        _ => return change_checked_word(random, draft),
+    };
+    let words = &mut draft.pieces[index].words;
+    // At times there is room for more levels, so that a count over the rules is the only fault.
+    if random.one_in(2) {
+        words.resize(words.len() + random.between(1, 12), random.word());
+    }
+    for _ in 0..random.between(1, 2) {
+        let size = words.len();
+        match random.below(13) {
+            0 | 1 => words.truncate(random.between(1, 4)),
+            2 => words.truncate(5),
+            3 => words.truncate(random.between(5, size.max(6) - 1)),
+            4 | 5 if size > 1 => words[1] = changed(random, words[1]),
+            _ if size < 5 => words[size.min(2) - 1] = random.word(),
+            6 => words[2] = random.pick(&LOWEST),
+            7 | 8 => words[2] = random.pick(&OFF_THE_LIST),
+            9 | 10 => {
+                let left = bands_left(words[2]).unwrap_or(15);
+                words[3] = random.pick(&[0, 0, 1, left, left + 1, left + 1, left + 1, 16, 0x0100, 0xFFFF]);
+            }
+            _ => words[4] = random.pick(&[0, 3, 4, 4, 4, 4, 5, 0x0100]),
+        }
+    }
+    words[0] = header(0x0E, words.len());
+}
+
+/// An 0F or a 10 in a 953 file, where none is ever due: in the place where a 945 has it, with what follows or as all that follows, or
+/// elsewhere.
+fn never_due(random: &mut Random, draft: &mut Draft) {
+    if draft.model == Model::Svan945 {
+        return foreign(random, draft);
+    }
+    let (id, behind) = random.pick(&[(0x0F, 0x05), (0x10, 0x07)]);
+    let count = least(Model::Svan945, id);
+    let mut words = any_words(random, count);
+    words[0] = header(id, count);
+    // No raw contents, and the words of a 945's 10.
+    let due: &[u16] = if id == 0x0F { &[1, 0, 100, 15, 3, 0, 0] } else { &[0x0101, 80, 45, 3] };
+    words[1..=due.len()].copy_from_slice(due);
+    let place = match draft.find(behind) {
+        Some(index) if !random.one_in(4) => index + 1,
+        _ => listed(random, draft),
+    };
+    if random.one_in(3) {
+        draft.pieces.truncate(place);
+        draft.pieces.push(Piece { kind: Kind::End, words: vec![0xFFFF] });
+    }
+    draft.pieces.insert(place, Piece { kind: Kind::Listed(id), words });
 }
 
 fn damage_words(random: &mut Random, words: &mut Vec<u16>) {

@@ -1,6 +1,6 @@
-//! Accepted files of all kinds, and additions to them.
+//! Accepted files of both models and all kinds, and additions to them.
 
-use crate::check::{least_sub, LISTED};
+use crate::check::{first_band, least, least_sub, Model, LISTED, LOWEST};
 use crate::random::Random;
 
 /// "A meter file is 16-bit words, 32,768 at most".
@@ -27,6 +27,8 @@ pub struct Piece {
 /// A file in pieces.
 #[derive(Clone, Debug)]
 pub struct Draft {
+    /// The model it was made for.
+    pub model: Model,
     pub pieces: Vec<Piece>,
 }
 
@@ -55,6 +57,9 @@ pub fn bytes(words: &[u16]) -> Vec<u8> {
 
 /// What an accepted file shall hold.
 struct Plan {
+    model: Model,
+    /// Of the 953, with such words alone that it is accepted as a 945 too.
+    both: bool,
     function: u16,
     /// 07 and what follows it, else 0F.
     results: bool,
@@ -66,14 +71,11 @@ struct Plan {
 /// An accepted file with additions or without. One in `rare` is large.
 pub fn accepted(random: &mut Random, rare: usize) -> Draft {
     let large = random.one_in(rare);
-    let shape = random.below(4);
-    let plan = Plan {
-        function: random.between(1, 3) as u16,
-        results: shape < 2,
-        statistics: shape == 1,
-        room: if large { random.pick(&[0, 3_000, 20_000, 32_000, 32_000]) } else { 0 },
-    };
+    let plan = plan(random, large);
     let mut draft = least_file(random, &plan);
+    if plan.model == Model::Svan953 && random.one_in(3) {
+        unlisted(random, &mut draft);
+    }
     if large {
         lengthen(random, &mut draft, MOST_WORDS, true);
         // Mostly filled to the last word that a file may have, or nearly.
@@ -82,23 +84,40 @@ pub fn accepted(random: &mut Random, rare: usize) -> Draft {
     } else if !random.one_in(4) {
         lengthen(random, &mut draft, MOST_WORDS, false);
     }
+    if plan.both && random.one_in(2) {
+        switch_unit_type(&mut draft);
+    }
     draft
+}
+
+/// Two files in five are of the 953, one in six of these such that the unit type alone decides.
+fn plan(random: &mut Random, large: bool) -> Plan {
+    let room = if large { random.pick(&[0, 3_000, 20_000, 32_000, 32_000]) } else { 0 };
+    if random.below(5) < 3 {
+        let function = random.between(1, 3) as u16;
+        let shape = random.below(4);
+        return Plan { model: Model::Svan945, both: false, function, results: shape < 2, statistics: shape == 1, room };
+    }
+    let both = random.one_in(6);
+    let function = if both { random.between(1, 2) as u16 } else { random.pick(&[1, 2, 2, 4]) };
+    Plan { model: Model::Svan953, both, function, results: true, statistics: random.one_in(2), room }
 }
 
 /// A file with every block of its least length.
 fn least_file(random: &mut Random, plan: &Plan) -> Draft {
-    let mut draft = Draft { pieces: Vec::new() };
+    let mut draft = Draft { model: plan.model, pieces: Vec::new() };
     draft.push(0x01, file_header(random));
-    draft.push(0x02, unit(random));
+    draft.push(0x02, unit(random, plan.model));
     draft.push(0x03, title_block(random));
-    draft.push(0x04, settings(random, plan.function));
-    let profiles = profiles(random);
+    draft.push(0x04, settings(random, plan));
+    let profiles = profiles(random, plan);
     draft.push(0x05, profiles.clone());
     if plan.results {
-        draft.push(0x07, results(random));
-        match plan.function {
-            2 => draft.push(0x0E, spectrum(random, 0x0E)),
-            3 => draft.push(0x10, spectrum(random, 0x10)),
+        draft.push(0x07, results(random, plan.model));
+        match (plan.model, plan.function) {
+            (Model::Svan953, 2) => draft.push(0x0E, octaves(random, plan.both)),
+            (Model::Svan945, 2) => draft.push(0x0E, spectrum(random, 0x0E)),
+            (Model::Svan945, 3) => draft.push(0x10, spectrum(random, 0x10)),
             _ => {}
         }
         if plan.statistics {
@@ -111,15 +130,58 @@ fn least_file(random: &mut Random, plan: &Plan) -> Draft {
     draft
 }
 
+/// The other unit type in block 02, everything else as it was.
+pub fn switch_unit_type(draft: &mut Draft) {
+    let Some(index) = draft.find(0x02) else {
+        return;
+    };
+    if let Some(unit_type) = draft.pieces[index].words.get_mut(2) {
+        (*unit_type, draft.model) = match draft.model {
+            Model::Svan945 => (953, Model::Svan953),
+            Model::Svan953 => (945, Model::Svan945),
+        };
+    }
+}
+
+/// Blocks that a 953 writes and that are not listed, behind those where its files have them (parts B.3 and B.6 of document 001).
+fn unlisted(random: &mut Random, draft: &mut Draft) {
+    // Each is put right behind the listed one, so that the last comes first.
+    for (behind, id) in
+        [(0x0E, 0x27), (0x0E, 0x26), (0x07, 0x17), (0x05, 0x21), (0x04, 0x2E), (0x04, 0x2C), (0x04, 0x2B)]
+    {
+        let Some(index) = draft.find(behind) else {
+            continue;
+        };
+        if random.one_in(4) {
+            continue;
+        }
+        let mut words = match id {
+            // "min. spectrum results" and "max. spectrum results" have the words of 0E.
+            0x26 | 0x27 if random.one_in(2) => draft.pieces[index].words.clone(),
+            0x26 | 0x27 => octaves(random, false),
+            0x17 => {
+                let levels = random.below(11);
+                any_words(random, 3 + 4 * levels)
+            }
+            0x21 => any_words(random, 19),
+            0x2E => any_words(random, 10),
+            _ => any_words(random, 7),
+        };
+        words[0] = header(id, words.len());
+        draft.pieces.insert(index + 1, Piece { kind: Kind::Other, words });
+    }
+}
+
 /// A first word.
 pub fn header(id: u8, nn: usize) -> u16 {
     u16::from_le_bytes([id, nn as u8])
 }
 
 /// Words that a reader may take for something else.
-const TELLING: [u16; 24] = [
+const TELLING: [u16; 32] = [
     0xFFFF, 0x8000, 0x7FFF, 0x0000, 0x0001, 0x0009, 0x000A, 0xFFFB, 0xFFF6, 0xFFF7, 0x0C01, 0x0602, 0x0203, 0x1704,
-    0x1405, 0x2C07, 0x170E, 0x3510, 0x0E09, 0x010B, 0x080F, 0x0307, 0x0703, 0x0606,
+    0x1405, 0x2C07, 0x170E, 0x3510, 0x0E09, 0x010B, 0x080F, 0x0307, 0x0703, 0x0606, 0x0A02, 0x1C04, 0x2F07, 0x0F08,
+    0x120E, 0x0101, 945, 953,
 ];
 
 /// Any word: plain random, telling, or a usual level.
@@ -172,9 +234,14 @@ fn file_header(random: &mut Random) -> Vec<u16> {
     words
 }
 
-fn unit(random: &mut Random) -> Vec<u16> {
-    let mut words = vec![header(0x02, 6), any_number(random), 945, any_number(random)];
-    words.extend(any_words(random, 2));
+fn unit(random: &mut Random, model: Model) -> Vec<u16> {
+    let unit_type = match model {
+        Model::Svan945 => 945,
+        Model::Svan953 => 953,
+    };
+    let count = least(model, 0x02);
+    let mut words = vec![header(0x02, count), any_number(random), unit_type, any_number(random)];
+    words.extend(any_words(random, count - 4));
     words
 }
 
@@ -197,47 +264,86 @@ fn title_block(random: &mut Random) -> Vec<u16> {
     words
 }
 
-fn settings(random: &mut Random, function: u16) -> Vec<u16> {
-    let mut words = vec![header(0x04, 23)];
-    words.extend(any_words(random, 22));
-    words[3] = function;
-    // With function 1 these two are not checked.
-    if function != 1 || random.one_in(2) {
+fn settings(random: &mut Random, plan: &Plan) -> Vec<u16> {
+    let count = least(plan.model, 0x04);
+    let mut words = vec![header(0x04, count)];
+    words.extend(any_words(random, count - 1));
+    words[3] = plan.function;
+    // With other functions than 2 and 3 the filter and the buffering are not checked.
+    let spectrum = matches!(plan.function, 2 | 3);
+    if (plan.model == Model::Svan945 || plan.both) && (spectrum || random.one_in(2)) {
         words[21] = random.below(4) as u16;
         words[22] = random.below(2) as u16;
+    }
+    if plan.model == Model::Svan953 && (spectrum || random.one_in(2)) {
+        words[14] = random.pick(&[0, 2, 3]);
+        words[15] = random.below(2) as u16;
     }
     words
 }
 
-fn profiles(random: &mut Random) -> Vec<u16> {
+fn profiles(random: &mut Random, plan: &Plan) -> Vec<u16> {
     let none = random.one_in(10);
+    let (filters, codes): (&[u16], usize) = match plan.model {
+        Model::Svan953 if plan.both => (&[2, 3], 4),
+        Model::Svan953 => (&[0, 2, 3], 15),
+        Model::Svan945 => (&[1, 2, 3, 4], 4),
+    };
     let mut words = vec![header(0x05, 20), 0x0307];
     for _ in 0..3 {
-        let code = if none { 0 } else { random.below(5) as u16 };
+        let code = if none { 0 } else { random.between(0, codes) as u16 };
         words.push(header(0x06, 6));
         words.push(any_word(random));
-        words.push(random.between(1, 4) as u16);
+        words.push(random.pick(filters));
         words.push(code);
         words.extend(any_words(random, 2));
     }
     words
 }
 
-fn results(random: &mut Random) -> Vec<u16> {
-    let mut words = vec![header(0x07, 44), 0x0307];
+fn results(random: &mut Random, model: Model) -> Vec<u16> {
+    let sub = match model {
+        Model::Svan945 => 14,
+        Model::Svan953 => 15,
+    };
+    let mut words = vec![header(0x07, 2 + 3 * sub), 0x0307];
     for _ in 0..3 {
-        words.push(header(0x08, 14));
+        words.push(header(0x08, sub));
         words.extend([any_number(random), if random.one_in(2) { 0 } else { any_number(random) }]);
-        words.extend(any_words(random, 11));
+        words.extend(any_words(random, sub - 3));
     }
     words
 }
 
+/// The 945's 0E or 10.
 fn spectrum(random: &mut Random, id: u8) -> Vec<u16> {
     let (lowest, bands) = if id == 0x0E { (100, 15) } else { (80, 45) };
-    let count = 5 + usize::from(bands) + 3;
-    let mut words = vec![header(id, count), 0x0101, lowest, bands, 3];
-    words.extend(any_words(random, count - 5));
+    spectrum_of(random, id, lowest, bands, 3)
+}
+
+/// The 953's 0E: as the meter has it, as the 945 has it, or of any bands and totals.
+fn octaves(random: &mut Random, both: bool) -> Vec<u16> {
+    let lowest = random.pick(&LOWEST);
+    let left = bands_left(lowest).expect("a frequency of the list");
+    let some = random.between(1, usize::from(left)) as u16;
+    let bands = random.pick(&[1, left, some, some]);
+    let totals = random.below(4) as u16;
+    match random.below(12) {
+        _ if both => spectrum_of(random, 0x0E, 100, 15, 3),
+        0 => spectrum_of(random, 0x0E, 3_150, 10, 3),
+        _ => spectrum_of(random, 0x0E, lowest, bands, totals),
+    }
+}
+
+/// "the bands left from there": the list has 15.
+pub fn bands_left(lowest: u16) -> Option<u16> {
+    first_band(lowest).map(|first| 15 - first as u16)
+}
+
+fn spectrum_of(random: &mut Random, id: u8, lowest: u16, bands: u16, totals: u16) -> Vec<u16> {
+    let levels = usize::from(bands + totals);
+    let mut words = vec![header(id, 5 + levels), 0x0101, lowest, bands, totals];
+    words.extend(any_words(random, levels));
     words
 }
 
@@ -320,7 +426,7 @@ pub fn lengthen(random: &mut Random, draft: &mut Draft, most: usize, large: bool
         if id == 0x03 && random.one_in(2) {
             alter_title(random, words);
         }
-        let subs = if least_sub(id).is_some() { 3 } else { 0 };
+        let subs = if least_sub(draft.model, id).is_some() { 3 } else { 0 };
         for sub in 0..subs {
             if random.one_in(eager) {
                 let extra = extra_words(random, room.min(255 - words.len()) / 4);
@@ -373,8 +479,12 @@ fn lengthen_sub(words: &mut Vec<u16>, sub: usize, extra: &[u16]) {
     words[0] = header(words[0] as u8, words.len());
 }
 
-/// Ids of band statistics and FFT, of sub-blocks, and at the ends.
-const USUAL: [u8; 11] = [0x14, 0x14, 0x12, 0x13, 0x15, 0x06, 0x08, 0x0A, 0x00, 0xFF, 0x99];
+/// Ids of band statistics and FFT, of sub-blocks, at the ends, and those that a 953 writes.
+#[rustfmt::skip]
+const USUAL: [u8; 18] = [
+    0x14, 0x14, 0x12, 0x13, 0x15, 0x06, 0x08, 0x0A, 0x00, 0xFF, 0x99,
+    0x2B, 0x2C, 0x2E, 0x21, 0x17, 0x26, 0x27,
+];
 
 /// An id that is not listed.
 pub fn other_id(random: &mut Random) -> u8 {

@@ -1,4 +1,4 @@
-//! Compares the library with a program that was written from document 01 alone, on files made from a seed.
+//! Compares the library with a program that was written from the documents alone, on files of both models made from a seed.
 
 mod buffers;
 mod cases;
@@ -7,6 +7,7 @@ mod compare;
 mod damage;
 mod files;
 mod meter;
+mod notes;
 mod random;
 mod reading;
 mod sheet;

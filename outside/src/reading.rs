@@ -1,6 +1,6 @@
-//! The four calls as document 01 has them, in plain Rust, written from that document alone.
+//! The four calls as document 01 and request T-01 of document 02 have them, in plain Rust, written from the documents alone.
 
-pub use crate::check::{check, Record, Refusal, ABSENT};
+pub use crate::check::{check, Refusal, ABSENT};
 pub use crate::sheet::{answer, lines, Answer};
 pub use crate::slim::{copy, slim};
 pub use crate::title::{title, TitlePart};

@@ -1,6 +1,6 @@
-//! Slim, from the part "Slim copy" of document 01.
+//! Slim, from the part "Slim copy" of document 01, with the least words of either model.
 
-use crate::check::{least, least_sub, read, refusal, Block, Reading, Refusal};
+use crate::check::{least_sub, read, refusal, Block, Reading, Refusal};
 use crate::title::text;
 
 /// Slim: "writes the slim copy and answers its byte length".
@@ -30,7 +30,7 @@ fn cut(reading: &Reading, block: &Block) -> Vec<u16> {
         0x0B => return first(block.start, block.length),
         0x03 => title_block(reading),
         0x05 | 0x07 | 0x09 => {
-            let (sub_id, sub_least) = least_sub(block.id).expect("a block with sub-blocks");
+            let (sub_id, sub_least) = least_sub(reading.model(), block.id).expect("a block with sub-blocks");
             let mut words = first(block.start, 2);
             for start in &block.subs {
                 words.push(header(sub_id, sub_least));
@@ -38,7 +38,7 @@ fn cut(reading: &Reading, block: &Block) -> Vec<u16> {
             }
             words
         }
-        _ => first(block.start, least(block.id)),
+        _ => first(block.start, reading.least_words(block)),
     };
     words[0] = header(block.id, words.len());
     if block.id == 0x0F {

@@ -1,37 +1,45 @@
 //! The figures of a run, and the list of what a long run must have met.
 
-use crate::check::read;
-use crate::reading::{Answer, Record, Refusal};
+use crate::check::{read, Model, Reading};
+use crate::notes;
+use crate::reading::{Answer, Refusal};
 use std::collections::BTreeMap;
 
-/// A refusal as the figures count it: number, place, cause.
-pub type Fault = (u8, &'static str, &'static str);
+/// A refusal as the figures count it: number, model if it was known, place, cause.
+pub type Fault = (u8, Option<Model>, &'static str, &'static str);
 
 #[derive(Default)]
 pub struct Tally {
     pub files: u64,
-    pub additions: u64,
     pub calls: u64,
     pub bytes: u64,
     pub walked: u64,
     accepted: BTreeMap<&'static str, u64>,
+    additions: BTreeMap<&'static str, u64>,
     refused: BTreeMap<Fault, u64>,
     answers: BTreeMap<&'static str, u64>,
+    notes: BTreeMap<String, u64>,
 }
 
 /// The kinds of accepted files.
-const KINDS: [&str; 11] = [
-    "function 1",
-    "function 1, statistics",
-    "function 1, buffer",
-    "function 2",
-    "function 2, statistics",
-    "function 2, buffer",
-    "function 2, buffer with bands",
-    "function 3",
-    "function 3, statistics",
-    "function 3, buffer",
-    "function 3, buffer with bands",
+const KINDS: [&str; 17] = [
+    "945, function 1",
+    "945, function 1, statistics",
+    "945, function 1, buffer",
+    "945, function 2",
+    "945, function 2, statistics",
+    "945, function 2, buffer",
+    "945, function 2, buffer with bands",
+    "945, function 3",
+    "945, function 3, statistics",
+    "945, function 3, buffer",
+    "945, function 3, buffer with bands",
+    "953, function 1",
+    "953, function 1, statistics",
+    "953, function 2",
+    "953, function 2, statistics",
+    "953, function 4",
+    "953, function 4, statistics",
 ];
 
 /// The answers of Sheet and Slim that are no refusals of the file.
@@ -45,40 +53,54 @@ const ANSWERS: [&str; 7] = [
     "slim copy written",
 ];
 
-fn kind(file: &[u8]) -> &'static str {
-    let Ok(reading) = read(file) else {
-        return "refused";
-    };
+fn kind(reading: &Reading) -> &'static str {
     let place = match (reading.block(0x0F).is_some(), reading.block(0x09).is_some()) {
         (true, _) if reading.buffered_bands() != 0 => 3,
         (true, _) => 2,
         (_, true) => 1,
         _ => 0,
     };
-    match reading.function() {
-        1 => KINDS[place],
-        2 => KINDS[3 + place],
-        _ => KINDS[7 + place],
+    match (reading.model(), reading.function()) {
+        (Model::Svan945, 1) => KINDS[place],
+        (Model::Svan945, 2) => KINDS[3 + place],
+        (Model::Svan945, _) => KINDS[7 + place],
+        (Model::Svan953, 1) => KINDS[11 + place],
+        (Model::Svan953, 2) => KINDS[13 + place],
+        (Model::Svan953, _) => KINDS[15 + place],
     }
 }
 
 impl Tally {
     /// Counts a file by what the reading says of it.
-    pub fn file(&mut self, file: &[u8], record: &Result<Record, Refusal>) {
+    pub fn file(&mut self, file: &[u8]) {
         self.files += 1;
-        match record {
-            Ok(_) => {
-                *self.accepted.entry(kind(file)).or_default() += 1;
+        let notes = match read(file) {
+            Ok(reading) => {
+                *self.accepted.entry(kind(&reading)).or_default() += 1;
                 if file.len() == 65_536 {
                     self.answer("file of 65,536 bytes");
                 }
+                notes::accepted(file, &reading)
             }
-            Err(refusal) => self.refusal(refusal),
+            Err(refusal) => {
+                self.refusal(&refusal);
+                notes::refused(file, &refusal)
+            }
+        };
+        for name in notes {
+            *self.notes.entry(name).or_default() += 1;
+        }
+    }
+
+    /// Counts a file whose additions were compared with it.
+    pub fn addition(&mut self, file: &[u8]) {
+        if let Ok(reading) = read(file) {
+            *self.additions.entry(kind(&reading)).or_default() += 1;
         }
     }
 
     fn refusal(&mut self, refusal: &Refusal) {
-        *self.refused.entry((refusal.number, refusal.place, refusal.cause)).or_default() += 1;
+        *self.refused.entry((refusal.number, refusal.model, refusal.place, refusal.cause)).or_default() += 1;
     }
 
     fn answer(&mut self, name: &'static str) {
@@ -110,18 +132,23 @@ impl Tally {
 
     pub fn add(&mut self, other: Tally) {
         self.files += other.files;
-        self.additions += other.additions;
         self.calls += other.calls;
         self.bytes += other.bytes;
         self.walked += other.walked;
         for (name, count) in other.accepted {
             *self.accepted.entry(name).or_default() += count;
         }
+        for (name, count) in other.additions {
+            *self.additions.entry(name).or_default() += count;
+        }
         for (fault, count) in other.refused {
             *self.refused.entry(fault).or_default() += count;
         }
         for (name, count) in other.answers {
             *self.answers.entry(name).or_default() += count;
+        }
+        for (name, count) in other.notes {
+            *self.notes.entry(name).or_default() += count;
         }
     }
 
@@ -130,30 +157,41 @@ impl Tally {
         let accepted: u64 = self.accepted.values().sum();
         println!("accepted {accepted}");
         for (name, count) in &self.accepted {
-            println!("  {name}: {count}");
+            let additions = self.additions.get(name).copied().unwrap_or(0);
+            println!("  {name}: {count}, with additions {additions}");
         }
         println!("refused {}", self.files - accepted);
         for number in 1..=11 {
-            println!("  {number}: {}", self.number(number));
+            let of_953 = self.number(number, |model| model == Some(Model::Svan953));
+            println!("  {number}: {}, of a 953 {of_953}", self.number(number, |_| true));
         }
         for (name, count) in &self.answers {
             println!("{name}: {count}");
         }
         println!("sheets walked {}", self.walked);
-        println!("additions compared {}", self.additions);
+        println!("additions compared {}", self.additions.values().sum::<u64>());
         println!("calls made {}", self.calls);
         println!("output bytes compared {}", self.bytes);
         println!("seconds {seconds:.1}");
     }
 
     pub fn print_faults(&self) {
-        for ((number, place, cause), count) in &self.refused {
-            println!("  {number} {place}, {cause}: {count}");
+        for ((number, model, place, cause), count) in &self.refused {
+            let model = model.map_or("any", notes::model_name);
+            println!("  {number} {model} {place}, {cause}: {count}");
+        }
+        for (name, count) in &self.notes {
+            println!("  {name}: {count}");
         }
     }
 
-    fn number(&self, number: u8) -> u64 {
-        self.refused.iter().filter(|(fault, _)| fault.0 == number).map(|(_, count)| count).sum()
+    /// The refusals with this number, of these models.
+    fn number(&self, number: u8, of: impl Fn(Option<Model>) -> bool) -> u64 {
+        self.refused.iter().filter(|(fault, _)| fault.0 == number && of(fault.1)).map(|(_, count)| count).sum()
+    }
+
+    fn fault(&self, fault: Fault) -> u64 {
+        self.refused.get(&fault).copied().unwrap_or(0)
     }
 
     /// What a long run should have met and did not meet often enough.
@@ -165,10 +203,15 @@ impl Tally {
             }
         };
         for number in 1..=11 {
-            need(format!("refusal {number}"), self.number(number), 100);
+            need(format!("refusal {number}"), self.number(number, |model| model != Some(Model::Svan953)), 100);
+        }
+        for number in [2, 3, 4, 6, 7, 8, 9] {
+            let found = self.number(number, |model| model == Some(Model::Svan953));
+            need(format!("refusal {number} of a 953"), found, 100);
         }
         for name in KINDS {
             need(name.to_string(), self.accepted.get(name).copied().unwrap_or(0), 100);
+            need(format!("{name}, with additions"), self.additions.get(name).copied().unwrap_or(0), 100);
         }
         for name in ANSWERS {
             let least = if name == "file of 65,536 bytes" { 10 } else { 100 };
@@ -176,9 +219,19 @@ impl Tally {
         }
         for (number, cause, places) in POSSIBLE {
             for place in *places {
-                let found = self.refused.get(&(*number, *place, *cause)).copied().unwrap_or(0);
-                need(format!("refusal {number} at {place}, {cause}"), found, 10);
+                let found = [None, Some(Model::Svan945)].map(|model| self.fault((*number, model, *place, *cause)));
+                need(format!("refusal {number} at {place}, {cause}"), found.iter().sum(), 10);
             }
+        }
+        for (number, cause, places) in POSSIBLE_953 {
+            for place in *places {
+                let found = self.fault((*number, Some(Model::Svan953), *place, *cause));
+                need(format!("refusal {number} of a 953 at {place}, {cause}"), found, 10);
+            }
+        }
+        for name in notes::due() {
+            let found = self.notes.get(&name).copied().unwrap_or(0);
+            need(name, found, 10);
         }
         missing
     }
@@ -191,7 +244,8 @@ const LISTED: &[&str] = &["01", "02", "03", "04", "05", "07", "09", "0B", "0E", 
 const WITH_SUBS: &[&str] = &["05", "07", "09"];
 const WITH_BANDS: &[&str] = &["0E", "0F", "10"];
 
-/// The faults that document 01 makes possible.
+/// The faults that document 01 makes possible, in files of the 945 and in those that end before the model is known, with what T-01
+/// adds to block 02.
 #[rustfmt::skip]
 const POSSIBLE: &[(u8, &str, &[&str])] = &[
     (1, "odd length", &["file"]),
@@ -203,6 +257,7 @@ const POSSIBLE: &[(u8, &str, &[&str])] = &[
     (3, "long form under 2", ANY),
     (3, "long form not allowed", SHORT),
     (3, "below the table", SHORT),
+    (3, "below the table of the 953", &["02"]),
     (3, "not exact", &["0B"]),
     (3, "title without null", &["03"]),
     (4, "order", LISTED),
@@ -228,4 +283,39 @@ const POSSIBLE: &[(u8, &str, &[&str])] = &[
     (9, "word after it", &["end"]),
     (10, "label", &["sheet"]),
     (11, "output", &["sheet", "slim"]),
+];
+
+/// The blocks of a 953 behind its 02, in their order.
+const BEHIND_02: &[&str] = &["03", "04", "05", "07", "09", "0E"];
+
+/// The faults that T-01 makes possible in a file whose 02 told a 953.
+#[rustfmt::skip]
+const POSSIBLE_953: &[(u8, &str, &[&str])] = &[
+    (2, "words run out", &["file"]),
+    (2, "no length word", ANY),
+    (2, "passes the last word", ANY),
+    (3, "long form under 2", ANY),
+    (3, "long form not allowed", BEHIND_02),
+    (3, "below the table", BEHIND_02),
+    (3, "below its counts", &["0E"]),
+    (3, "not exact", &["0B"]),
+    (3, "title without null", &["03"]),
+    (4, "order", LISTED),
+    (4, "order", &["end"]),
+    (4, "in the place of 07", &["0F"]),
+    (4, "another nn", &["0B"]),
+    (6, "word 1", &["05", "07", "09", "0E"]),
+    (7, "sub-block outside", WITH_SUBS),
+    (7, "sub-block id", WITH_SUBS),
+    (7, "sub-block length", WITH_SUBS),
+    (7, "sub-block past its block", WITH_SUBS),
+    (8, "function", &["04"]),
+    (8, "spectrum filter", &["04"]),
+    (8, "buffering", &["04"]),
+    (8, "profile filter", &["05"]),
+    (8, "buffer code", &["05"]),
+    (8, "lowest frequency", &["0E"]),
+    (8, "bands", &["0E"]),
+    (8, "totals", &["0E"]),
+    (9, "word after it", &["end"]),
 ];

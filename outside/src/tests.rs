@@ -1,20 +1,25 @@
-//! The reading on the checked files of document 01, its printers, and the generator.
+//! The reading on the checked files of document 01 and on files of the 953, its printers, and the generator.
 
-use crate::check::{check, least, Refusal, ABSENT};
+use crate::check::{check, first_band, least, Model, Refusal, ABSENT, LOWEST};
 use crate::files::{accepted, bytes, lengthen, MOST_WORDS};
 use crate::random::Random;
 use crate::sheet::{level, lines, sheet, shown, tenths, wide, Answer, OCTAVES, THIRDS};
 use crate::slim::{copy, slim};
 use crate::title::{title, TitlePart};
 
-/// A block of its least length: its first word, then the words that are given at offsets, else 0.
-fn block(id: u8, given: &[(usize, u16)]) -> Vec<u16> {
-    let mut words = vec![0; least(id)];
-    words[0] = u16::from_le_bytes([id, least(id) as u8]);
+/// A block of so many words: its first word, then the words that are given at offsets, else 0.
+fn block_of(id: u8, count: usize, given: &[(usize, u16)]) -> Vec<u16> {
+    let mut words = vec![0; count];
+    words[0] = u16::from_le_bytes([id, count as u8]);
     for (offset, word) in given {
         words[*offset] = *word;
     }
     words
+}
+
+/// A block of a 945 of its least length.
+fn block(id: u8, given: &[(usize, u16)]) -> Vec<u16> {
+    block_of(id, least(Model::Svan945, id), given)
 }
 
 /// The first five blocks of checked file 8, with this function and title block.
@@ -80,11 +85,33 @@ fn checked_file_2() {
     assert_eq!(refused(&[0x0601, 0, 0, 0, 0, 0]), (3, 0));
 }
 
+/// A 12-word 01 block, then an 02 of so many words and this unit type.
+fn unit(count: usize, unit_type: u16) -> Vec<u16> {
+    let mut words = block(0x01, &[]);
+    words.extend(block_of(0x02, count, &[(2, unit_type)]));
+    words
+}
+
+/// "Checked file 3 becomes 3 at 12" (T-01), and its neighbours.
 #[test]
 fn checked_file_3() {
     let mut words = block(0x01, &[]);
     words.extend([0x0602, 0, 953, 0, 0, 0]);
-    assert_eq!(refused(&words), (5, 14));
+    assert_eq!(refused(&words), (3, 12));
+    assert_eq!(words, unit(6, 953));
+    // "5 is given for a unit type that is neither; an 02 under 6 words is 3 before it, a 953's 02 under 10 is 3 after it"
+    assert_eq!(refused(&unit(9, 954)), (5, 14));
+    assert_eq!(refused(&unit(10, 954)), (5, 14));
+    assert_eq!(refused(&unit(9, 953)), (3, 12));
+    assert_eq!(refused(&unit(5, 953)), (3, 12));
+    assert_eq!(refused(&unit(5, 954)), (3, 12));
+    // Both models go on to the next block, which is not there.
+    assert_eq!(refused(&unit(10, 953)), (2, 22));
+    assert_eq!(refused(&unit(6, 945)), (2, 18));
+    // The fit comes before the unit type.
+    let mut words = unit(10, 954);
+    words.pop();
+    assert_eq!(refused(&words), (2, 12));
 }
 
 #[test]
@@ -157,6 +184,233 @@ fn checked_file_9() {
     assert_eq!(copy(&bytes(&words)), Ok(bytes(&file_8())));
 }
 
+/// The words of a 953's 04: the function, and the words at offsets.
+fn settings_953(function: u16, given: &[(usize, u16)]) -> Vec<u16> {
+    let mut words = block_of(0x04, 28, given);
+    words[3] = function;
+    words
+}
+
+/// A 953's 05 with these filters and buffer codes.
+fn profiles_953(filters: [u16; 3], codes: [u16; 3]) -> Vec<u16> {
+    let mut words = block_of(0x05, 20, &[(1, 0x0307)]);
+    for (sub, (filter, code)) in filters.iter().zip(codes).enumerate() {
+        let start = 2 + 6 * sub;
+        words[start] = 0x0606;
+        words[start + 2] = *filter;
+        words[start + 3] = code;
+    }
+    words
+}
+
+/// A 953's 07. The pairs are 65,537, 131,074 and 196,611; result r of profile p is 100·p + r tenths, the under-range word 999.
+fn results_953() -> Vec<u16> {
+    let mut words = vec![0x2F07, 0x0307];
+    for profile in 1..=3 {
+        words.extend([0x0F08, profile, profile]);
+        words.extend((1..=11).map(|result| 100 * profile + result));
+        words.push(999);
+    }
+    words
+}
+
+/// A whole 953 file of these blocks from 04 on, and the end marker.
+fn file_953(blocks: &[Vec<u16>]) -> Vec<u16> {
+    let mut words = block(0x01, &[(1, 0x3539), (2, 0x0033)]);
+    words.extend(block_of(0x02, 10, &[(1, 77), (2, 953), (3, 604)]));
+    words.extend(HALL);
+    words.extend(blocks.concat());
+    words.push(0xFFFF);
+    words
+}
+
+const HEAD_953: &str = "unit=953\nnumber=77\nversion=604\nname=953\n";
+
+const ROWS_953: &str = "title=Hall\nresult,unit,P1 Z,P2 A,P3 C\ntime,s,65537,,\noverload,s,131074,,\n\
+                        PEAK,dB,10.1,20.1,30.1\nMAX,dB,10.3,20.3,30.3\nMIN,dB,10.4,20.4,30.4\n\
+                        SPL,dB,10.5,20.5,30.5\nLEQ,dB,10.6,20.6,30.6\nLden,dB,10.7,20.7,30.7\n\
+                        Ltm3,dB,10.8,20.8,30.8\nLtm5,dB,10.9,20.9,30.9\n";
+
+#[test]
+fn level_meter_953() {
+    // Words 14, 15, 21 and 22 are not asked.
+    let settings = settings_953(1, &[(14, 1), (15, 2), (21, 4), (22, 2)]);
+    let blocks = [settings, profiles_953([0, 2, 3], [0, 5, 15]), results_953()];
+    let words = file_953(&blocks);
+    assert_eq!(text(&words, b""), format!("{HEAD_953}function=1\n{ROWS_953}"));
+    let record = check(&bytes(&words)).expect("an accepted file");
+    assert_eq!(record.function, 1);
+    assert_eq!(record.starts, [0, 12, 22, 26, 54, 74, ABSENT, ABSENT, ABSENT]);
+    // Every block is of its least length.
+    assert_eq!(copy(&bytes(&words)), Ok(bytes(&words)));
+    // A block that is not listed, and a longer 02.
+    let mut longer = words.clone();
+    longer.splice(121..121, [0x0317, 0x0307, 0]);
+    longer.insert(22, 0xFFFF);
+    longer[12] = 0x0B02;
+    assert_eq!(text(&longer, b""), text(&words, b""));
+    assert_eq!(copy(&bytes(&longer)), Ok(bytes(&words)));
+}
+
+#[test]
+fn dose_meter_953() {
+    let statistics = [
+        block_of(0x09, 14, &[(1, 0x0703), (2, 0x040A), (3, 1), (4, 240), (5, 10), (6, 0x040A), (10, 0x040A)]),
+        vec![0x010B, 4, 17, 0, 0x020B, 2, 0x040B, 2],
+    ];
+    let front = [settings_953(4, &[(14, 9), (15, 9)]), profiles_953([0, 2, 3], [1, 2, 4]), results_953()];
+    let rows = format!("{HEAD_953}function=4\n{ROWS_953}LAV,dB,11.0,21.0,31.0\nTLAV,dB,11.1,21.1,31.1\n");
+    let words = file_953(&front);
+    assert_eq!(text(&words, b""), rows);
+    assert_eq!(check(&bytes(&words)).map(|record| record.function), Ok(4));
+    let with_statistics = file_953(&[&front[..], &statistics].concat());
+    assert_eq!(text(&with_statistics, b""), format!("{rows}profile,from dB,count\nP1,24.0,17\n"));
+    assert_eq!(copy(&bytes(&with_statistics)), Ok(bytes(&with_statistics)));
+    // "function 4 has the block order of 1": no 0E.
+    let with_octaves = file_953(&[&front[..], &[octaves_953(8, 3_150, 2, 1)]].concat());
+    assert_eq!(refused(&with_octaves), (4, 121));
+}
+
+/// A 953's 0E of so many words.
+fn octaves_953(count: usize, lowest: u16, bands: u16, totals: u16) -> Vec<u16> {
+    let mut words: Vec<u16> = (0..count as u16).map(|index| 500 + index).collect();
+    let given = [u16::from_le_bytes([0x0E, count as u8]), 0x0101, lowest, bands, totals];
+    let first = count.min(5);
+    words[..first].copy_from_slice(&given[..first]);
+    words
+}
+
+/// A 953 file of function 2 with this 0E, which starts at word 121.
+fn octave_file_953(octaves: Vec<u16>) -> Vec<u16> {
+    let settings = settings_953(2, &[(14, 3), (15, 1), (21, 9), (22, 9)]);
+    file_953(&[settings, profiles_953([0, 2, 3], [0; 3]), results_953(), octaves])
+}
+
+#[test]
+fn octaves_of_the_953() {
+    let words = octave_file_953(octaves_953(8, 3_150, 2, 1));
+    let sheet = format!("{HEAD_953}function=2\n{ROWS_953}band,Hz,dB C\n1,31.5,50.5\n2,63,50.6\nT1,,50.7\n");
+    assert_eq!(text(&words, b""), sheet);
+    assert_eq!(check(&bytes(&words)).map(|record| record.starts[6]), Ok(121));
+    assert_eq!(copy(&bytes(&words)), Ok(bytes(&words)));
+    // Longer than its counts: the slim copy is not.
+    let longer = octave_file_953(octaves_953(11, 3_150, 2, 1));
+    assert_eq!(text(&longer, b""), sheet);
+    assert_eq!(copy(&bytes(&longer)), Ok(bytes(&words)));
+    // No totals, and the last bands of the list.
+    let words = octave_file_953(octaves_953(11, 50_000, 6, 0));
+    assert!(text(&words, b"")
+        .ends_with("dB C\n1,500,50.5\n2,1000,50.6\n3,2000,50.7\n4,4000,50.8\n5,8000,50.9\n6,16000,51.0\n"));
+    // As a 945 has it.
+    let words = octave_file_953(octaves_953(23, 100, 15, 3));
+    assert!(text(&words, b"").contains("dB C\n1,1,50.5\n2,2,50.6\n"));
+    assert!(text(&words, b"").ends_with("15,16000,51.9\nT1,,52.0\nT2,,52.1\nT3,,52.2\n"));
+}
+
+/// "a 953's 0E under 5 words is 3, then a word off these rules 8, then under 5 plus both counts 3"
+#[test]
+fn faults_of_the_953s_octaves() {
+    let refused_octaves =
+        |count, lowest, bands, totals| refused(&octave_file_953(octaves_953(count, lowest, bands, totals)));
+    for count in 1..5 {
+        assert_eq!(refused_octaves(count, 0, 0, 9), (3, 121));
+    }
+    let mut octaves = octaves_953(5, 0, 0, 9);
+    octaves[1] = 0x0102;
+    assert_eq!(refused(&octave_file_953(octaves)), (6, 122));
+    for lowest in [0, 80, 99, 101, 34_464, 3_392, 65_535] {
+        assert_eq!(refused_octaves(5, lowest, 0, 9), (8, 123));
+    }
+    for (first, lowest) in LOWEST.into_iter().enumerate() {
+        let left = 15 - first as u16;
+        assert_eq!(refused_octaves(5, lowest, 0, 9), (8, 124));
+        assert_eq!(refused_octaves(5, lowest, left + 1, 9), (8, 124));
+        assert_eq!(refused_octaves(5, lowest, left, 4), (8, 125));
+        for (bands, totals) in [(1, 0), (1, 3), (left, 0), (left, 3)] {
+            let due = usize::from(5 + bands + totals);
+            assert_eq!(refused_octaves(due - 1, lowest, bands, totals), (3, 121));
+            assert!(check(&bytes(&octave_file_953(octaves_953(due, lowest, bands, totals)))).is_ok());
+        }
+    }
+}
+
+#[test]
+fn faults_of_a_953() {
+    let results = results_953();
+    let profiles = profiles_953([0, 2, 3], [0; 3]);
+    let settings =
+        |function, given: &[_]| refused(&file_953(&[settings_953(function, given), profiles.clone(), results.clone()]));
+    for function in [0, 3, 5] {
+        assert_eq!(settings(function, &[]), (8, 29));
+    }
+    assert_eq!(settings(2, &[(14, 1), (15, 2)]), (8, 40));
+    assert_eq!(settings(2, &[(14, 4)]), (8, 40));
+    assert_eq!(settings(2, &[(15, 2)]), (8, 41));
+    // "0E .. due for function 2"
+    assert_eq!(settings(2, &[]), (4, 121));
+    let profile =
+        |filters, codes| refused(&file_953(&[settings_953(1, &[]), profiles_953(filters, codes), results.clone()]));
+    assert_eq!(profile([1, 2, 3], [16; 3]), (8, 58));
+    assert_eq!(profile([0, 4, 3], [15, 0, 16]), (8, 64));
+    assert_eq!(profile([0, 2, 3], [15, 0, 16]), (8, 71));
+    // A sub-block of 14 is a 945's.
+    let mut short = results.clone();
+    short[2] = 0x0E08;
+    assert_eq!(refused(&file_953(&[settings_953(1, &[]), profiles.clone(), short])), (7, 76));
+    let below = |id: u8, count: usize| {
+        let blocks = [settings_953(1, &[]), profiles.clone(), results.clone()];
+        let cut = blocks.map(|words| if words[0] as u8 == id { block_of(id, count, &[]) } else { words });
+        refused(&file_953(&cut))
+    };
+    assert_eq!(below(0x04, 27), (3, 26));
+    assert_eq!(below(0x05, 19), (3, 54));
+    assert_eq!(below(0x07, 46), (3, 74));
+    // "a 953 file with 0F is 4"; a 10 too.
+    let buffer = block(0x0F, &[(1, 1)]);
+    assert_eq!(refused(&file_953(&[settings_953(1, &[]), profiles.clone(), buffer])), (4, 74));
+    let thirds = block(0x10, &[(1, 0x0101), (2, 80), (3, 45), (4, 3)]);
+    assert_eq!(refused(&file_953(&[settings_953(1, &[]), profiles.clone(), results.clone(), thirds])), (4, 121));
+}
+
+/// The same words of both models but for the unit type: each is read by its own.
+#[test]
+fn the_model_in_block_02_decides() {
+    let settings = settings_953(2, &[(14, 0), (15, 1), (21, 1), (22, 0)]);
+    let blocks = [settings, profiles_953([2, 3, 2], [0; 3]), results_953(), octaves_953(23, 100, 15, 3)];
+    let mut words = file_953(&blocks);
+    assert!(text(&words, b"").contains("dB Z\n1,1,50.5\n"));
+    assert_eq!(copy(&bytes(&words)), Ok(bytes(&words)));
+    words[14] = 945;
+    // A 945 with longer records: three times, eleven rows, and what is over is cut.
+    let sheet = text(&words, b"");
+    assert!(sheet.starts_with("unit=945\nnumber=77\n"));
+    assert!(sheet.contains("P3 A\ntime,s,65537,131074,196611\nPEAK,dB,10.1,20.1,30.1\nMAX,dB,10.2,20.2,30.2\n"));
+    assert!(sheet.contains("LN,dB,11.1,21.1,31.1\nband,Hz,dB LIN\n"));
+    let slim = copy(&bytes(&words)).expect("an accepted file");
+    assert_eq!(slim.len(), bytes(&words).len() - 2 * (4 + 5 + 3));
+    assert_eq!(check(&slim).map(|record| record.starts), Ok([0, 12, 18, 22, 45, 65, 109, ABSENT, ABSENT]));
+    // Blocks of a 945, its 07 of 47 words with sub-blocks of 15: the same rows.
+    let mut words = front(1, &HALL);
+    words.extend(results_953());
+    words.push(0xFFFF);
+    assert!(text(&words, b"").contains("P3 Lin\ntime,s,65537,131074,196611\nPEAK,dB,10.1,20.1,30.1\nMAX,dB,10.2,"));
+    assert_eq!(copy(&bytes(&words)).map(|slim| slim.len()), Ok(bytes(&words).len() - 6));
+    // Filters that one model has.
+    let of = |unit_type, filter| {
+        let mut words = file_953(&[settings_953(1, &[]), profiles_953([filter, 2, 3], [0; 3]), results_953()]);
+        words[14] = unit_type;
+        check(&bytes(&words)).map(|record| record.function).map_err(|refusal| (refusal.number, refusal.at))
+    };
+    assert_eq!([of(945, 0), of(953, 0)], [Err((8, 58)), Ok(1)]);
+    assert_eq!([of(945, 1), of(953, 1)], [Ok(1), Err((8, 58))]);
+    assert_eq!([of(945, 4), of(953, 4)], [Ok(1), Err((8, 58))]);
+    // Function 4 is the 953's alone.
+    let mut words = file_953(&[settings_953(4, &[]), profiles_953([2; 3], [0; 3]), results_953()]);
+    assert!(check(&bytes(&words)).is_ok());
+    words[14] = 945;
+    assert_eq!(refused(&words), (8, 29));
+}
+
 #[test]
 fn lines_that_fit() {
     let file = bytes(&file_8());
@@ -200,6 +454,10 @@ fn frequencies() {
     assert!(OCTAVES[10..].iter().zip(thousands).all(|(octave, due)| *octave == due));
     // Each octave is a third of the same nominal frequency.
     assert!(OCTAVES.iter().all(|octave| THIRDS.contains(octave)));
+    // The lowest frequencies of the 953 are those of the list that a word can hold.
+    let lowest: Vec<String> = LOWEST.iter().map(|lowest| hertz(u32::from(*lowest))).collect();
+    assert_eq!(lowest, OCTAVES[..10]);
+    assert!(LOWEST.iter().enumerate().all(|(place, lowest)| first_band(*lowest) == Some(place)));
 }
 
 #[test]

@@ -50,7 +50,7 @@ pub data Then (key : ℕ) (Next : Blocks) : Setup → List Part → Type 0 where
 abbrev pub Either : Blocks → Blocks → Blocks
 Either A B s ps = A s ps ⊎ B s ps
 
--- "0E if the function is 2, 10 if it is 3, neither if it is 1"
+-- "0E if the function is 2, 10 if it is 3, neither if it is 1"; "function 4 has the block order of 1"
 abbrev pub Spectrum : Blocks → Blocks
 Spectrum Next s ps =
     cond (eqb (s .function) 2) (Then 0x0E Next s ps) (cond (eqb (s .function) 3) (Then 0x10 Next s ps) (Next s ps))

@@ -5,13 +5,12 @@ use text::put::put_byte;
 use text::put::put_bytes;
 ghost use mathlib.Core.List.{_++_};
 ghost use mathlib.Core.Path.{_≡_};
-ghost use Prim.Native.Nat.{_≤_, _<_};
-ghost use lib.ListN.{length, getD};
+ghost use Prim.Native.Nat.{_≤_};
+ghost use lib.ListN.{length};
 ghost use Rattle.text.specs.Ascii.{ascii};
 ghost use Rattle.text.specs.Text.{Wrote};
-ghost use Rattle.names.specs.declared.ResultName.the-variants.{Peak};
-ghost use Rattle.names.specs.declared.UnitName.the-variants.{Decibel};
-ghost use Rattle.names.specs.Names.{named, profileFilters, bufferCodes, spectrumFilters, nameOf, unitOf, result, results, profileName, filterColumn};
+ghost use Rattle.models.specs.Models.{columns};
+ghost use Rattle.names.specs.Names.{named, profileFilters, bufferCodes, spectrumFilters, nameOf, unitOf, results945, results953, dose953, results, profileName, filterColumn};
 
 fn put_profile_filter(out: &mut [u8], code: u16) -> usize
     requires { ⌜ 3 ≤ length (now out) ⌝ }
@@ -93,7 +92,8 @@ pub struct Entry {
     pub offset: u16,
 }
 
-const RESULTS_945: [Entry; 11] = [
+// The 945's eleven, and then the 953's ten, of which the last two are the dose meter's.
+const RESULTS: [Entry; 21] = [
     Entry {
         name: ResultName::Peak,
         unit: UnitName::Decibel,
@@ -149,10 +149,6 @@ const RESULTS_945: [Entry; 11] = [
         unit: UnitName::Decibel,
         offset: 13,
     },
-];
-
-// The last two are shown for the dose function only.
-const RESULTS_953: [Entry; 10] = [
     Entry {
         name: ResultName::Peak,
         unit: UnitName::Decibel,
@@ -237,7 +233,21 @@ pub fn put_unit(out: &mut [u8], unit: UnitName) -> usize
     }
 }
 
-// How many results a sheet shows.
+// The table whole, so that a caller takes it once for all its rows.
+pub fn all_results() -> [Entry; 21]
+    ensures { λ r. ⌜ r ≡ results945 ++ (results953 ++ dose953) ⌝ }
+{
+    RESULTS
+}
+
+// Where a model's results start in it.
+pub fn first_result(model: u16) -> usize
+    ensures { λ r. ⌜ r ≡ columns model 0 11 ⌝ }
+{
+    if model == 953 { 11 } else { 0 }
+}
+
+// How many of them a sheet shows.
 pub fn result_count(model: u16, function: u16) -> usize
     ensures { λ r. ⌜ r ≡ length (results model function) ⌝ }
 {
@@ -245,17 +255,6 @@ pub fn result_count(model: u16, function: u16) -> usize
         return 11;
     }
     if function == 4 { 10 } else { 8 }
-}
-
-// Result i of those.
-pub fn result_at(model: u16, i: usize) -> Entry
-    requires { ⌜ i < length (results model 4) ⌝ }
-    ensures { λ r. ⌜ (r ≡ getD (results model 4) i (result Peak Decibel 0)) × ((3 ≤ r .offset) × (r .offset ≤ 13)) ⌝ }
-{
-    if model == 953 {
-        return RESULTS_953[i];
-    }
-    RESULTS_945[i]
 }
 
 pub fn put_profile(out: &mut [u8], p: u16) -> usize

@@ -21,7 +21,7 @@ use Rattle.accept.specs.Judge.{placeOf, noted, skipped, entered, enteredBy, tes
 use Rattle.grammar.proofs.Takes.{accepts}
 use Rattle.grammar.proofs.Exactly.{accepts-found}
 use Rattle.lines.specs.Lines.{numbersFrom}
-use Rattle.cases.specs.Cases.{block01, block02, profile}
+use Rattle.cases.specs.Cases.{block01, profile}
 use Rattle.promises.specs.Files.{fileOf, areBytes, alone, longer, withRecords, titled, Model, m945, later, m953, measured, resultRecord, spectrumFrom, level953File, octave953File, dose953File, octaveSpectrum, thirdSpectrum, classRecord, histogram, loggerPart, headParts, resultsPart, statisticsParts, levelFile, octaveFile, thirdFile, bandFile}
 use Rattle.promises.specs.Instances.{Shown, AllShown, words, strange, between, behindHeader, grown, instances}
 use Rattle.promises.proofs.Growing.{longer-grown, records-grown, table-grown, AllGrown, none, one, all-as-is, grown-append, header-adds}
@@ -40,22 +40,6 @@ title-grown = title 0x0403 (0x6148 ∷ (0x6C6C ∷ null)) (0x6148 ∷ (0x6C6C �
 header-grown : Grown (longer [] block01) (longer words block01)
 unfolding block01 mayGrow rowOf
 header-grown = longer-grown _ _ _ words refl refl
-
--- the blocks in which the models differ
-record Grows (m : Model) (function : ℕ) : Type 0 where
-  unit : Grown (longer [] (m .unit)) (longer words (m .unit))
-  setup : Grown (longer [] (m .setup function)) (longer words (m .setup function))
-  profiles : Grown (withRecords [] 0x05 0x0307 (profile 2 4) (profile 3 0) (m .profile)) (withRecords words 0x05 0x0307 (profile 2 4) (profile 3 0) (m .profile))
-
-grows-945 : (function : ℕ) → Grows m945 function
-unfolding m945 block02 profile mayGrow rowOf
-grows-945 function =
-    record { unit = longer-grown _ _ _ words refl refl; setup = longer-grown _ _ _ words refl refl; profiles = records-grown _ _ _ _ _ _ _ _ words refl refl }
-
-grows-953 : (function : ℕ) → Grows m953 function
-unfolding m953 later profile mayGrow rowOf
-grows-953 function =
-    record { unit = longer-grown _ _ _ words refl refl; setup = longer-grown _ _ _ words refl refl; profiles = records-grown _ _ _ _ _ _ _ _ words refl refl }
 
 results-grown : (n : ℕ) → Grown (resultsPart n []) (resultsPart n words)
 unfolding resultsPart resultRecord mayGrow rowOf
@@ -102,31 +86,34 @@ module _ (file : List ℕ → List ℕ → List Part) (a : Additions (file [] nu
         bytes = all;
       }
 
-module _ (m : Model) (function : ℕ) (g : Grows m function) where
-  -- what stands behind the blocks up to 05
+module _ (m : Model) (function : ℕ) where
+  -- the blocks up to 05, and what stands behind them
   head-adds : {ps ps′ : List Part} → AllGrown ps ps′ → Additions (headParts m function [] null ++ ps) (behindHeader (headParts m function words others ++ ps′))
-  unfolding headParts
-  head-adds a = header-adds header-grown (one (g .unit) (one title-grown (one (g .setup) (one (g .profiles) a))))
+  unfolding headParts profile mayGrow rowOf
+  head-adds a =
+      header-adds header-grown
+      (one (longer-grown _ _ _ words refl refl) (one title-grown (one (longer-grown _ _ _ words refl refl) (one (records-grown _ _ _ _ _ _ _ _ words refl refl) a))))
 
-  measured-adds : (spectrum : List (List ℕ)) → AllGrown (map (longer []) spectrum) (map (longer words) spectrum) → Additions (measured m function spectrum [] null) (behindHeader (measured m function spectrum words others))
+  measured-adds : (spectrum : List (List ℕ)) → AllGrown (map (longer []) spectrum) (map (longer words) spectrum)
+      → Additions (measured m function spectrum [] null) (behindHeader (measured m function spectrum words others))
   unfolding measured
   measured-adds spectrum a = head-adds (one (results-grown (m .results)) (grown-append a statistics-grown))
 
 pub instances-shown : AllShown instances
-unfolding instances bandPlace octaves partsIn fileOf areBytes levelFile octaveFile thirdFile bandFile headParts resultsPart statisticsParts longer withRecords titled alone m945 later m953 measured resultRecord spectrumFrom level953File octave953File dose953File octaveSpectrum thirdSpectrum classRecord histogram loggerPart words strange between behindHeader recounted counted block01 block02 profile numbersFrom wordsOf bytesOf longAt longForm fronted frontOf rawOf walk walked partsOf joined inForce moreOf leastOf filled then behind allows obeyed ruled rulesIn recorded records sized nulled readable wholeRecords buffered kept cutTo textOf cutText slimRecords headBy slimBy wordIn subWordIn rowOf slimOf bandsOf levelsOf idIn learnt classesOf rowFor keyOf isDue passedOver dueAfter dueAfterProfiles dueAfterResults placeOf noted skipped entered enteredBy testedBy judgedBy seenBy seenIn closed judge misfit surveyed accepts
+unfolding instances bandPlace octaves partsIn fileOf areBytes levelFile octaveFile thirdFile bandFile headParts resultsPart statisticsParts longer withRecords titled alone m945 later m953 measured resultRecord spectrumFrom level953File octave953File dose953File octaveSpectrum thirdSpectrum classRecord histogram loggerPart words strange between behindHeader recounted counted block01 profile numbersFrom wordsOf bytesOf longAt longForm fronted frontOf rawOf walk walked partsOf joined inForce moreOf leastOf filled then behind allows obeyed ruled rulesIn recorded records sized nulled readable wholeRecords buffered kept cutTo textOf cutText slimRecords headBy slimBy wordIn subWordIn rowOf slimOf bandsOf levelsOf idIn learnt classesOf rowFor keyOf isDue passedOver dueAfter dueAfterProfiles dueAfterResults placeOf noted skipped entered enteredBy testedBy judgedBy seenBy seenIn closed judge misfit surveyed accepts
 instances-shown = (
-  shown levelFile (measured-adds m945 1 (grows-945 1) [] none) refl refl (lit≤ tt) refl,
+  shown levelFile (measured-adds m945 1 [] none) refl refl (lit≤ tt) refl,
   (
-    shown octaveFile (measured-adds m945 2 (grows-945 2) (octaveSpectrum ∷ []) (one octave-grown none)) refl refl (lit≤ tt) refl,
+    shown octaveFile (measured-adds m945 2 (octaveSpectrum ∷ []) (one octave-grown none)) refl refl (lit≤ tt) refl,
     (
-      shown thirdFile (measured-adds m945 3 (grows-945 3) (thirdSpectrum ∷ []) (one third-grown none)) refl refl (lit≤ tt) refl,
+      shown thirdFile (measured-adds m945 3 (thirdSpectrum ∷ []) (one third-grown none)) refl refl (lit≤ tt) refl,
       (
-        shown bandFile (head-adds m945 2 (grows-945 2) (one logger-grown none)) refl refl (lit≤ tt) refl,
+        shown bandFile (head-adds m945 2 (one logger-grown none)) refl refl (lit≤ tt) refl,
         (
-          shown level953File (measured-adds m953 1 (grows-953 1) [] none) refl refl (lit≤ tt) refl,
+          shown level953File (measured-adds m953 1 [] none) refl refl (lit≤ tt) refl,
           (
-            shown (octave953File 10) (measured-adds m953 2 (grows-953 2) (spectrumFrom 10 ∷ []) (one (from-grown 10) none)) refl refl (lit≤ tt) refl,
-            (shown dose953File (measured-adds m953 4 (grows-953 4) [] none) refl refl (lit≤ tt) refl, tt),
+            shown (octave953File 10) (measured-adds m953 2 (spectrumFrom 10 ∷ []) (one (from-grown 10) none)) refl refl (lit≤ tt) refl,
+            (shown dose953File (measured-adds m953 4 [] none) refl refl (lit≤ tt) refl, tt),
           ),
         ),
       ),

@@ -9,7 +9,7 @@ use Rattle.words.specs.Words.{bytesOf}
 use Rattle.blocks.specs.Walk.{Part, joined}
 use Rattle.lines.specs.Lines.{numbersFrom}
 use Rattle.additions.specs.Additions.{recounted}
-use Rattle.cases.specs.Cases.{block01, block02, profile}
+use Rattle.cases.specs.Cases.{block01, profile}
 
 unfoldable pub fileOf : List Part → List ℕ
 fileOf ps = bytesOf (joined ps)
@@ -37,32 +37,21 @@ withRecords more id word a b c =
 unfoldable pub titled : List ℕ → Part
 titled behind = alone (recounted (0x03 ∷ (0x6148 ∷ (0x6C6C ∷ behind))))
 
--- the blocks in which the models differ, of least length: 02; 04 of a function, with filter A and buffering on; a profile with the
--- model's own filter; and how many words a profile's results have behind the time
+-- where the models differ, in blocks of least length: 02 from its unit type on; 04 behind the function, with filter A and buffering on;
+-- a filter of the third profile; and how many words a profile's results have behind the time
 pub record Model : Type 0 where
   pub unit : List ℕ
-  pub setup : ℕ → List ℕ
-  pub profile : List ℕ
+  pub setup : List ℕ
+  pub filter : ℕ
   pub results : ℕ
 
 unfoldable pub m945 : Model
-m945 =
-    record {
-      unit = block02;
-      setup = λ function. 0x04 ∷ (0 ∷ (0 ∷ (function ∷ (replicate 17 0 ++ (2 ∷ (0 ∷ []))))));
-      profile = profile 1 1;
-      results = 11;
-    }
+m945 = record { unit = 945 ∷ (105 ∷ replicate 2 0); setup = replicate 17 0 ++ (2 ∷ (0 ∷ [])); filter = 1; results = 11 }
 
--- of a 953 with this unit type and this filter in the third profile
+-- the 953's, with this unit type and this filter
 unfoldable pub later : ℕ → ℕ → Model
 later unit filter =
-    record {
-      unit = 0x02 ∷ (4321 ∷ (unit ∷ (604 ∷ replicate 6 0)));
-      setup = λ function. 0x04 ∷ (0 ∷ (0 ∷ (function ∷ (replicate 10 0 ++ (2 ∷ (1 ∷ replicate 12 0))))));
-      profile = profile filter 4;
-      results = 12;
-    }
+    record { unit = unit ∷ (604 ∷ replicate 6 0); setup = replicate 10 0 ++ (2 ∷ (1 ∷ replicate 12 0)); filter = filter; results = 12 }
 
 -- "0 Z"
 unfoldable pub m953 : Model
@@ -104,10 +93,10 @@ loggerPart more =
 unfoldable pub headParts : Model → ℕ → List ℕ → List ℕ → List Part
 headParts m function more behind =
     longer more block01
-    ∷ longer more (m .unit)
+    ∷ longer more (0x02 ∷ (1234 ∷ m .unit))
     ∷ titled behind
-    ∷ longer more (m .setup function)
-    ∷ withRecords more 0x05 0x0307 (profile 2 4) (profile 3 0) (m .profile)
+    ∷ longer more (0x04 ∷ (0 ∷ (0 ∷ (function ∷ m .setup))))
+    ∷ withRecords more 0x05 0x0307 (profile 2 4) (profile 3 0) (profile (m .filter) 1)
     ∷ []
 
 unfoldable pub resultsPart : ℕ → List ℕ → Part
