@@ -1,8 +1,8 @@
 -- `tries::fit_entry` meets its contract. Assumes nothing.
 use borrow.Author.Needs.{needs}
 use Rattle.text.proofs.Writing.{at-most, front-part}
-use Rattle.lines.proofs.tries.fit_entry.Statement.{statement}
-use Rattle.lines.proofs.tries.fit_entry.Tie as tie
+use Rattle.fills.proofs.tries.fit_entry.Statement.{statement}
+use Rattle.fills.proofs.tries.fit_entry.Tie as tie
 
 returns : tie.Need-returns
 returns c = at-most (c .before .before .put-entry .ensures) (search needs)

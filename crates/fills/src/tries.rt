@@ -1,10 +1,10 @@
-// The same lines where they fit. Where any line fits it is written at its place; near the end of the output, where its length
+// The lines of plain values where they fit. Where any line fits it is written at its place; near the end of the output, where its length
 // decides, it is made in a row of its own and copied.
-use crate::line::Line;
-use crate::line::put_entry;
-use crate::line::put_line;
-use crate::line::put_record;
-use crate::line::put_result;
+use lines::line::Line;
+use lines::line::put_entry;
+use lines::line::put_line;
+use lines::line::put_record;
+use lines::line::put_result;
 use names::Entry;
 use text::fit::Tried;
 use text::fit::try_line;
