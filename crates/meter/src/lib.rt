@@ -13,8 +13,8 @@ ghost use Rattle.accept.specs.Check.{verdict};
 ghost use Rattle.titles.specs.Title.{titleAt};
 ghost use Rattle.meter.specs.Exports.{checkReply, titleReply, SheetGiven, SlimGiven};
 
-// Check's answer. `refusal` is 0 for an accepted file; `starts` are those of 01, 02, 03, 04, 05, 07, 0E or 10, 09 and 0F, 65,535
-// for an absent block and in a refused file.
+// Check's answer. `refusal` is 0 for an accepted file; `function` is 1 to 4, and 0 in a refused file; `starts` are those of 01, 02, 03,
+// 04, 05, 07, 0E or 10, 09 and 0F, 65,535 for an absent block and in a refused file.
 #[repr(C)]
 pub struct CheckReply {
     pub refusal: u8,
