@@ -1,12 +1,12 @@
 -- The words of the slim copy, block by block, and that there are no more of them than the file has. Assumes nothing.
-use mathlib.Core.Bool.{Bool, true, false, cond}
+use mathlib.Core.Bool.{Bool, true, false, cond, false≢true}
 use mathlib.Core.List.{List, [], _∷_, _++_, append-assoc, append-nil, flatMap}
 use mathlib.Core.Path.{_≡_, refl, sym, ap, subst⁻¹, _∙_}
 use Prim.Native.Nat.{ℕ, zero, suc, _+_, _-_, _≤_}
 use native.Mathlib.Omega.{arith}
 use lib.ListN.{length, getD, take, drop, length-append, length-drop}
 use lib.Seq.{length-take-le}
-use Rattle.words.specs.Words.{wordsOf, Holds}
+use Rattle.words.specs.Words.{low, wordsOf, Holds}
 use Rattle.words.proofs.WordLaws.{Below, words-below}
 use Rattle.blocks.specs.declared.Cursor.{Cursor}
 use Rattle.blocks.specs.declared.Stop.the-variants.{End, Refused}
@@ -17,8 +17,9 @@ use Rattle.blocks.proofs.Steps.{walkFrom, walk-over, step-block, end-bounds}
 use Rattle.rules.specs.declared.Row.{Row}
 use Rattle.rules.specs.Slim.{Slim, slimBy, wordsIn}
 use Rattle.tables.specs.declared.setup.Setup.{Setup}
+use Rattle.tables.specs.Table.{rowOf, kindOf}
 use Rattle.tables.specs.Setup.{rowFor, slimOf, learnt}
-use Rattle.tables.proofs.TableLaws.{row-listed, learnt-raw}
+use Rattle.tables.proofs.TableLaws.{row-listed, learnt-none, learnt-raw}
 use Rattle.cuts.specs.Cut.{Cuts}
 use Rattle.cuts.proofs.CutLaws.{slim-raw, slim-short}
 use Rattle.accept.specs.Slims.{slimPart, knownFrom, slims, slimsIn, partAt}
@@ -30,6 +31,31 @@ use Rattle.accept.proofs.Onward.{refused, no-fuel, Passes, passes, known-throug
 use Rattle.slims.proofs.Cuttable.{inside}
 use Rattle.slims.specs.Copy.{slimWords}
 use Rattle.slims.specs.Asked.{partWords, Accepted, Within}
+
+-- ---- what is known after a block
+
+-- a block that is not listed says nothing
+unlisted-says : (s : Setup) (b raw : List ℕ) → kindOf (low (getD b 0 0)) .listed ≡ false → learnt s (slimOf s b raw) ≡ s
+unfolding rowOf
+unlisted-says s b raw l = learnt-none s b raw (no 0x02 refl) (no 0x04 refl) (no 0x05 refl) (no 0x09 refl)
+  where
+    no : (id : ℕ) → kindOf id .listed ≡ true → low (getD b 0 0) ≡ id → ⊥
+    no id t e = false≢true (sym l ∙ ap (λ (i : ℕ). kindOf i .listed) e ∙ t)
+
+known-by : (s : Setup) (p : Part) → learnt s (slimOf s (p .words) []) ≡ knownFrom s p
+unfolding knownFrom
+known-by s p = go (kindOf (low (getD (p .words) 0 0)) .listed) refl
+  where
+    go : (t : Bool) → kindOf (low (getD (p .words) 0 0)) .listed ≡ t → learnt s (slimOf s (p .words) []) ≡ cond t (learnt s (slimOf s (p .words) (p .raw))) s
+    go true l = learnt-raw s (p .words) (p .raw)
+    go false l = unlisted-says s (p .words) [] l
+
+-- of the block that was read
+pub known-at : (ws : List ℕ) (known : Setup) (start len : ℕ) {from part : List ℕ} {k : Setup} → Holds (drop start ws) from → Holds (take len (wordsOf from)) part
+    → k ≡ learnt known (slimOf known (wordsOf part) []) → k ≡ knownFrom known (partAt ws start len)
+unfolding partAt
+known-at ws known start len f p e =
+    e ∙ ap (λ (b : List ℕ). learnt known (slimOf known b [])) (p .words ∙ ap (take len) (f .words)) ∙ known-by known (partAt ws start len)
 
 -- ---- its words in the slim copy
 
@@ -85,16 +111,6 @@ module _ {ws : List ℕ} {known : Setup} {start len : ℕ} {b : List ℕ} {row :
       ∙ ap (λ (l : List ℕ). wordsIn (slimBy (rowFor known (getD (take len (drop start ws)) 0 0)) l []) ++ take (rawOf l) (drop (start + len) ws)) (t .words))
 
   -- what is known behind it
-  pub read-known : {k : Setup} → row .listed ≡ true → k ≡ learnt known (slimOf known b []) → k ≡ knownFrom known (partAt ws start len)
-  unfolding knownFrom partAt
-  read-known l e =
-      rw (sym (row-listed known _) ∙ sym (ap (λ (r : Row). r .listed) own-row) ∙ l)
-      (e ∙ learnt-raw known b _ ∙ ap (λ (x : List ℕ). learnt known (slimOf known x (take (rawOf (take len (drop start ws))) (drop (start + len) ws)))) (t .words))
-
-  pub read-passed : row .listed ≡ false → known ≡ knownFrom known (partAt ws start len)
-  unfolding knownFrom partAt
-  read-passed l = rw (sym (row-listed known _) ∙ sym (ap (λ (r : Row). r .listed) own-row) ∙ l)
-
   module _ (i : Within ws known start len) where
     pub read-cuts : row .listed ≡ true → Cuts row b
     read-cuts l =

@@ -35,16 +35,11 @@ fn row_by(known: Setup, b: &[u8]) -> Row
     known.row_for(word(b, 0))
 }
 
-// What is known after the block of `len` words at word `start`.
+// What is known after the block of `len` words at word `start`. A block that is not listed says nothing, so no row is asked for.
 fn known_from(known: Setup, file: &[u8], start: usize, len: usize) -> Setup
     ensures { λ r. ⌜ r ≡ knownFrom known (partAt (wordsOf (now (file .entry))) start len) ⌝ }
 {
-    let b = front(rest(file, start), len);
-    let row = row_by(known, b);
-    if !row.listed {
-        return known;
-    }
-    known.learnt(b)
+    known.learnt(front(rest(file, start), len))
 }
 
 // How many words of the slim copy are the block of `len` words at word `start` and its raw contents.
