@@ -327,14 +327,19 @@ def hard_cases():
             yield f'953, {name}', data_of(words), line
 
 
-def kinds_of_files():
-    """Functions 1 to 3, with and without statistics; buffer files with 0 to 3 profiles, bands on and off."""
-    for function, numbers, fill in product((1, 2, 3), (None, CLASSES), (0, 1, 0x0C01, 0xFFFF)):
-        file = result_file(function, numbers, fill=fill)
+def measurements(make, functions):
+    """A model's functions, with and without statistics and with several free words; grown where these are 0."""
+    for function, numbers, fill in product(functions, (None, CLASSES), (0, 1, 0x0C01, 0xFFFF)):
+        file = make(function, numbers, fill=fill)
         name = f'function {function}, {"statistics" if numbers else "no statistics"}, free words {fill:04X}'
         yield accepted(name, file)
         if not fill:
             yield accepted(f'{name}, grown', grow(file))
+
+
+def kinds_of_files():
+    """Functions 1 to 3, with and without statistics; buffer files with 0 to 3 profiles, bands on and off."""
+    yield from measurements(result_file, (1, 2, 3))
     for function, buffering, records in product((1, 2, 3), (ON, OFF), (0, 1, 3)):
         for codes in product((0, 1), (0, 3), (0, 4)):
             if records and not record_words(function, codes, buffering):
@@ -377,18 +382,23 @@ def values():
             yield accepted(f'profile {k + 1}, buffer code {value}, buffer', buffer_file(1, codes=codes))
 
 
+def lengthened(file, kind):
+    """A block with a word more and with 255 words, and each of its sub-blocks with a word more."""
+    block = file.block(kind)
+    for more in 1, 255 - len(block.words):
+        yield accepted(f'{kind} lengthened by {more}', file.swap(kind, lengthen(block, more)))
+    for k in 1, 2, 3:
+        if block.subs:
+            longer = lengthen(block, 0, tuple(int(i == k) for i in (1, 2, 3)))
+            yield accepted(f'{kind}, sub-block {k} lengthened', file.swap(kind, longer))
+
+
 def additions():
     """Demand 3, one at a time: a block or a sub-block lengthened, a block that is not listed at every boundary."""
     lean = good_files()[0]
     for kind in LEAST:
         file = lean[{'0E': 'octave', '10': 'third', '0F': 'buffer 2'}.get(kind, 'level')]
-        block = file.block(kind)
-        for more in 1, 255 - len(block.words):
-            yield accepted(f'{kind} lengthened by {more}', file.swap(kind, lengthen(block, more)))
-        for k in 1, 2, 3:
-            if block.subs:
-                longer = lengthen(block, 0, tuple(int(i == k) for i in (1, 2, 3)))
-                yield accepted(f'{kind}, sub-block {k} lengthened', file.swap(kind, longer))
+        yield from lengthened(file, kind)
     for stage, _, file, i in boundaries(lean):
         for name, block in FREE.items():
             if i:
@@ -398,12 +408,7 @@ def additions():
 
 def kinds_953():
     """Functions 1, 2 and 4 of a 953, with and without statistics."""
-    for function, numbers, fill in product((1, 2, 4), (None, CLASSES), (0, 1, 0x0C01, 0xFFFF)):
-        file = file_953(function, numbers, fill=fill)
-        name = f'function {function}, {"statistics" if numbers else "no statistics"}, free words {fill:04X}'
-        yield accepted(name, file)
-        if not fill:
-            yield accepted(f'{name}, grown', grow(file))
+    yield from measurements(file_953, (1, 2, 4))
 
 
 def unchecked_953():
@@ -441,13 +446,7 @@ def additions_953():
     lean = good_files(M953)[0]
     for kind in M953.least:
         file = lean['octave' if kind == '0E' else 'dose']
-        block = file.block(kind)
-        for more in 1, 255 - len(block.words):
-            yield accepted(f'{kind} lengthened by {more}', file.swap(kind, lengthen(block, more)))
-        for k in 1, 2, 3:
-            if block.subs:
-                longer = lengthen(block, 0, tuple(int(i == k) for i in (1, 2, 3)))
-                yield accepted(f'{kind}, sub-block {k} lengthened', file.swap(kind, longer))
+        yield from lengthened(file, kind)
     longest = lean['octave']
     for kind in ('02', '03', '04', '05', '07', '0E', '09'):
         longest = longest.swap(kind, lengthen(longest.block(kind), 255 - len(longest.block(kind).words)))
