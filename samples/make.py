@@ -121,7 +121,7 @@ def results(levels):
 
 
 def exceeded(levels):
-    """A block 17: L10, L50 and L90, the levels that were exceeded in so many per cent of the time."""
+    """A block 17: L10, L50 and L90, the levels that were exceeded in n per cent of the time."""
     falling = [sorted(own, reverse=True) for own in levels]
     words = [word for n in (10, 50, 90) for word in (n, *(own[len(own) * n // 100] for own in falling))]
     return free(0x0F17, 0x0307, 3, *words)

@@ -49,7 +49,7 @@ BANDS_LEFT = {100: 15, 200: 14, 400: 13, 800: 12, 1600: 11, 3150: 10, 6300: 9, 1
 
 @dataclass(frozen=True)
 class Block:
-    kind: str  # an id, '0B nn 01', 'contents' (the raw words behind 0F), 'free' (an id that is not listed) or 'end'
+    kind: str  # an id, '0B nn 01', 'contents' (the raw words after 0F), 'free' (an id that is not listed) or 'end'
     words: tuple
     subs: tuple = ()  # where its sub-blocks start in it
 
@@ -226,11 +226,13 @@ def lengthen(block, more, each=(0, 0, 0)):
     return Block(block.kind, tuple(words), tuple(subs))
 
 
-# 01, Walking the blocks: the length is nn, or word 1 for id 14 and where nn is 0.
-FREE = {'one word': free(0x0199), 'short': free(0x0513, END, 0x0C01, 0x080F, END),
+# 01, Walking the blocks: the length is nn, or word 1 for id 14 and where nn is 0. Only a file that is about 13 or 14 has a block of
+# that id.
+FREE = {'one word': free(0x0199), 'short': free(0x05A3, END, 0x0C01, 0x080F, END),
         'long form': free(0x0012, 4, END, 0x0602), '14': free(0x0114, 4, 0x080F, END)}
+ADDED = *(FREE[name] for name in ('one word', 'short', 'long form')), free(0x0099, 4, 0x080F, END)
 # What a 953 writes between the listed blocks, as long as tables B.1.5 to B.1.7, B.1.9, B.1.11 and B.1.17 of its manual have it:
-# triggers, external I/O and reserved words around 05, statistical levels behind 07, and the least and highest spectrum.
+# triggers, external I/O and reserved words around 05, statistical levels after 07, and the least and highest spectrum.
 FREE_953 = {'2B': free(0x072B, 3, 0, 850, 10, 0, 0), '2C': free(0x072C, 3, 0, 850, 0, 5, 20),
             '2E': free(0x0A2E, 2, 1, 1, 1, 1000, 0, 0, 0, 0), '21': free(0x1321, *range(1, 19)),
             '17': free(0x0B17, 0x0307, 2, 10, 651, 663, 687, 90, 521, 540, 566),
@@ -239,8 +241,8 @@ FREE_953 = {'2B': free(0x072B, 3, 0, 850, 10, 0, 0), '2C': free(0x072C, 3, 0, 85
 
 
 def grow(file):
-    """Every table block and sub-block lengthened, and a block that is not listed behind each (demand 3)."""
-    blocks, others = [], cycle(FREE.values())
+    """Every table block and sub-block lengthened, and a block that is not listed after each (demand 3)."""
+    blocks, others = [], cycle(ADDED)
     for i, block in enumerate(file.blocks):
         blocks.append(lengthen(block, 1 + i % 3, (2, 1, 3)) if block.kind in LEAST else block)
         if block.kind not in ('0F', 'end'):

@@ -161,7 +161,7 @@ def sub_blocks(model=M945):
                 refused(7, start + at)
         longest = lengthen(block, 255 - model.least[kind])
         yield accepted(f'{kind} of 255 words, all behind its sub-blocks', file.swap(kind, longest))
-        # The second reaches to the block's end; the block behind looks like the third, but it is not in the block.
+        # The second reaches to the block's end; the block after it looks like the third, but it is not in the block.
         other = block.edit({block.subs[1]: number + 256 * (len(block.words) - block.subs[1])})
         like = free(*block.words[block.subs[2]:])
         following = file.blocks[file.index(kind) + 1].kind

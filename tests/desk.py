@@ -1,14 +1,12 @@
-"""What the desk is run on in the gate, and what it must say and write: the programs `desk` and `desk_tries`.
+"""What the desk is run on in the gate, and what it must say and write: the programs `desk` and `test_desk`.
 
 Files, sheets and slim copies are those of vectors; the lines are written out here.
 """
 
-from pathlib import Path
 from shutil import rmtree
 
-TESTS = Path(__file__).resolve().parent
-CRATES = TESTS.parent / 'crates'
-VECTORS = TESTS / 'vectors'
+from runs import CRATES, vector
+
 LABEL = 'Order 17'
 
 GOOD = ('ok-level-f1-stat-1', 'ok-octave-f2-1', 'ok-third-f3-3', 'ok-buffer-f1-1', 'ok-buffer-f2-4', 'ok-buffer-f3-1-grown')
@@ -25,10 +23,6 @@ REFUSED = {'no-01-odd-length': 'the number of bytes is odd, or over 65,536',
 # one too long for a folder's entry, one for any path
 LONG, LONGER = 'n' * 300 + '.svn', 'm' * 5000 + '.svn'
 OLDER = b'unit=945\nan older sheet\n'
-
-
-def vector(name, part):
-    return (VECTORS / f'{name}.{part}').read_bytes()
 
 
 def sheet(name):
@@ -95,7 +89,7 @@ def write_tries():
     back[f'{cut}.svn.csv'] = OLDER
     names = [LONGER if name == LONGER[:60] else name for name, _ in outcomes(str, str)]
     written = b''.join(f'{name}:\n'.encode('ascii') + content for name, content in back.items())
-    write('desk_tries', files, names, (checks + slims + sheets).encode('ascii') + written)
+    write('test_desk', files, names, (checks + slims + sheets).encode('ascii') + written)
 
 
 def write_desk():

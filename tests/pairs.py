@@ -47,7 +47,7 @@ def stages(model):
 
 
 def stages_945():
-    """(file, block in front, kinds due behind it), by the order that 01 states in Walking the blocks."""
+    """(file, block in front, kinds due after it), by the order that 01 states in Walking the blocks."""
     yield 'level', None, ('01',)
     for kind, due in zip(('01', '02', '03', '04'), ('02', '03', '04', '05')):
         yield 'level', kind, (due,)
@@ -202,7 +202,7 @@ def with_bands(file, bands):
 
 
 def number_3_later(files):
-    """A 953's 02 under 10 words, and its 0E under 5 plus both counts, tested behind words of theirs: the block's start."""
+    """A 953's 02 under 10 words, and its 0E under 5 plus both counts, tested after words of theirs: the block's start."""
     file = files['dose']
     for length in 5, 6, 7, 8, 9:
         yield f'02 of {length} words, dose', file.swap('02', file.block('02').resize(length)).words(), file.start('02')
@@ -237,8 +237,8 @@ def number_4(files):
             yield f'end as the last word after {stage}', before + [END], len(before)
     # 01 stands at word 0: after an unlisted block there nothing listed is due, the 01 too. No model is known there.
     for name, block in FREE.items() if model_of(files) == M945 else ():
-        behind = words_of(*files['level'].blocks)
-        yield f'a whole file after an unlisted block at word 0, {name}', words_of(block) + behind, len(block.words)
+        later = words_of(*files['level'].blocks)
+        yield f'a whole file after an unlisted block at word 0, {name}', words_of(block) + later, len(block.words)
         for kind, blocks in wrong_blocks(files):
             yield f'{kind} after an unlisted block at word 0, {name}', words_of(block, *blocks) + [END], \
                 len(block.words)

@@ -60,7 +60,7 @@ def wide_classes():
 
 
 def wide_classes_953():
-    """The longest sheet of a 953: 16,314 classes behind the results of a dose meter."""
+    """The longest sheet of a 953: 16,314 classes after the results of a dose meter."""
     count = 16314
     times = {1: 65535, 2: 65535}, {1: 65534, 2: 65535}, {}  # a measurement's, an overload's, and one that is not shown
     results = profiles('07', [{i: 100 * p + i for i in range(3, 15)} | time for p, time in enumerate(times, 6)], 1, M953)
@@ -89,7 +89,7 @@ def octaves_953():
 
 
 def fitting(lines, room):
-    """How many whole lines fit into so many bytes."""
+    """How many whole lines fit into `room` bytes."""
     count = size = 0
     for line in lines:
         size += len(line) + 1

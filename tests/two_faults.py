@@ -12,7 +12,7 @@ from pairs import WRONG, data_of, home, model_of, variants, with_bands, wrong_bl
 
 
 def wrong_words(file, what, at=0):
-    """(offset, 8, a wrong word) for the words of this name, behind word `at`."""
+    """(offset, 8, a wrong word) for the words of this name, after word `at`."""
     return ((at + offset, 8, words[0]) for offset, words in WRONG[file.model.unit][what].items())
 
 
@@ -58,17 +58,17 @@ def not_due(files):
         if kind in (only, 'end'):
             continue
         long = block if kind.startswith('0B') else block.long_form()
-        behind = files['level'].blocks[-2:]
+        rest = files['level'].blocks[-2:]
         yield 2, f'{kind} not due, and no length word', file.and_then(long.cut(1)).words(), at
         for length in 0, 1:
             under = long.edit({1: length})
-            yield 3, f'{kind} not due, and long form of {length}', file.and_then(under, *behind).words(), at
+            yield 3, f'{kind} not due, and long form of {length}', file.and_then(under, *rest).words(), at
         yield 2, f'{kind} not due, and passes the last word', file.and_then(block.cut(len(block.words) - 1)).words(), at
         if kind in LEAST:
-            yield 4, f'{kind} not due, and long form not allowed', file.and_then(long, *behind).words(), at
-            yield 4, f'{kind} not due, and short', file.and_then(block.resize(1), *behind).words(), at
+            yield 4, f'{kind} not due, and long form not allowed', file.and_then(long, *rest).words(), at
+            yield 4, f'{kind} not due, and short', file.and_then(block.resize(1), *rest).words(), at
             wrong = {i: 0 for i in range(1, len(block.words))}
-            yield 4, f'{kind} not due, and its words 0', file.and_then(block.edit(wrong), *behind).words(), at
+            yield 4, f'{kind} not due, and its words 0', file.and_then(block.edit(wrong), *rest).words(), at
     yield 4, '03 not due, and without null', file.and_then(title(b'AB')).words(), at
     for kind in HISTOGRAMS:
         other = files['level'].block(kind)

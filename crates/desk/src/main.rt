@@ -1,5 +1,5 @@
 // Converts the files that its arguments name, and says what came of each. The script ./desk calls it.
-use desks::desk;
+use desk_files::desk;
 
 fn main() {
     desk();

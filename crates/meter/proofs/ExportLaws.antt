@@ -1,30 +1,30 @@
--- An answer of each of the four calls, as the struct that a caller from outside gets. Assumes nothing.
+-- An answer of each of the four calls, as the struct that a caller from outside gets.
 use mathlib.Core.Bool.{true, false}
 use mathlib.Core.List.{List, [], _∷_}
 use mathlib.Core.Path.{_≡_, sym, ap, _∙_}
 use Prim.Native.Nat.{ℕ}
 use lib.ListN.{replicate}
-use Rattle.text.specs.declared.fit.Progress.{Progress}
-use Rattle.accept.specs.declared.check.Record.{Record}
-use Rattle.accept.specs.declared.check.Answer.{Answer}
-use Rattle.accept.specs.declared.check.Answer.the-variants.{Accepted, Refused}
-use Rattle.accept.specs.Judge.{absent}
-use Rattle.accept.specs.Check.{verdict, Checked}
-use Rattle.accept.proofs.Answers.{checked-verdict}
-use Rattle.titles.specs.declared.TitleAt.{TitleAt}
-use Rattle.titles.specs.declared.TitleAt.the-variants.{Text, Label}
-use Rattle.sheets.specs.declared.Reply as Sheet
-use Rattle.sheets.specs.Reply.{Sheeted}
-use Rattle.slims.specs.declared.Reply as Slim
-use Rattle.slims.specs.Copy as SlimCall
+use Rattle.paging.specs.declared.fit.Progress.{Progress}
+use Rattle.call_check.specs.declared.check.Outline.{Outline}
+use Rattle.call_check.specs.declared.check.Answer.{Answer}
+use Rattle.call_check.specs.declared.check.Answer.the-variants.{Accepted, Refused}
+use Rattle.call_check.specs.Judge.{absent}
+use Rattle.call_check.specs.Check.{verdict, Checked}
+use Rattle.call_check.proofs.Answers.{checked-verdict}
+use Rattle.call_title.specs.declared.TitleAt.{TitleAt}
+use Rattle.call_title.specs.declared.TitleAt.the-variants.{Text, Label}
+use Rattle.call_sheet.specs.declared.Reply as Sheet
+use Rattle.call_sheet.specs.Reply.{Sheeted}
+use Rattle.call_slim.specs.declared.Reply as Slim
+use Rattle.call_slim.specs.Copy as SlimCall
 use Rattle.meter.specs.Exports.{checkReply, titleReply, sheetStruct, slimStruct, SheetGiven, SlimGiven}
 use Rattle.meter.proofs.FieldLaws.{answer-of-sheet, answer-of-slim}
 
 -- ---- Check
 
 module _ (file : List ℕ) {a : Answer} (h : Checked file a) where
-  -- the record of an accepted file
-  pub check-accepted : {r : Record} → a ≡ Accepted r
+  -- the outline of an accepted file
+  pub check-accepted : {r : Outline} → a ≡ Accepted r
       → record {
         refusal = 0;
         function = r .function;

@@ -1,4 +1,4 @@
--- The numbers in an answer fit the fields of the structs: a function is 4 at most, a position 32,768. Assumes nothing.
+-- The numbers in an answer fit the fields of the structs: a function is 4 at most, a position 32,768.
 use mathlib.Core.Bool.{Bool, true, false, cond}
 use mathlib.Core.List.{List}
 use mathlib.Core.Path.{_≡_, refl, sym, ap, _∙_}
@@ -6,34 +6,34 @@ use Prim.Native.Nat.{ℕ, _≤_}
 use native.Mathlib.Omega.{arith}
 use lib.Dec.{ltb}
 use lib.ListN.{length, drop}
-use Rattle.accept.specs.declared.judge.Judged.{Judged}
-use Rattle.accept.specs.declared.judge.Judged.the-variants.{Passed, Denied}
-use Rattle.accept.specs.declared.check.Record.{Record}
-use Rattle.accept.specs.declared.check.Answer.{Answer}
-use Rattle.accept.specs.declared.check.Answer.the-variants.{Accepted, Refused}
-use Rattle.accept.specs.Judge.{surveyed}
-use Rattle.accept.specs.Check.{recordOf, answered, verdict, Checked}
-use Rattle.accept.proofs.Answers.{checked-verdict}
-use Rattle.pages.specs.Sheet.{sheetTexts}
-use Rattle.sheets.specs.declared.Reply as Sheet
-use Rattle.sheets.specs.Reply.{progressIn, askedFor, replied, sheetReply, Sheeted}
-use Rattle.sheets.proofs.ReplyLaws as SheetLaws
-use Rattle.slims.specs.declared.Reply as Slim
-use Rattle.slims.specs.Copy as SlimCall
-use Rattle.slims.proofs.ReplyLaws as SlimLaws
-use Rattle.sound.proofs.Positions.{denied-near}
+use Rattle.call_check.specs.declared.judge.Judged.{Judged}
+use Rattle.call_check.specs.declared.judge.Judged.the-variants.{Passed, Denied}
+use Rattle.call_check.specs.declared.check.Outline.{Outline}
+use Rattle.call_check.specs.declared.check.Answer.{Answer}
+use Rattle.call_check.specs.declared.check.Answer.the-variants.{Accepted, Refused}
+use Rattle.call_check.specs.Judge.{surveyed}
+use Rattle.call_check.specs.Check.{outlineOf, answered, verdict, Checked}
+use Rattle.call_check.proofs.Answers.{checked-verdict}
+use Rattle.sheet_page.specs.Sheet.{sheetTexts}
+use Rattle.call_sheet.specs.declared.Reply as Sheet
+use Rattle.call_sheet.specs.Reply.{progressIn, askedFor, replied, sheetReply, Sheeted}
+use Rattle.call_sheet.proofs.ReplyLaws as SheetLaws
+use Rattle.call_slim.specs.declared.Reply as Slim
+use Rattle.call_slim.specs.Copy as SlimCall
+use Rattle.call_slim.proofs.ReplyLaws as SlimLaws
+use Rattle.law_sound.proofs.Positions.{denied-near}
 use Rattle.meter.proofs.FunctionLaws.{function-small}
 
 -- ---- Check
 
 module _ (file : List ℕ) {a : Answer} (h : Checked file a) where
-  -- a record's function is small
-  pub accepted-function : {r : Record} → a ≡ Accepted r → r .function ≤ 4
-  unfolding verdict answered recordOf
+  -- an outline's function is small
+  pub accepted-function : {r : Outline} → a ≡ Accepted r → r .function ≤ 4
+  unfolding verdict answered outlineOf
   accepted-function {r} e = go (surveyed file) refl (sym e ∙ checked-verdict file a h)
     where
       go : (j : Judged) → surveyed file ≡ j → Accepted r ≡ answered j → r .function ≤ 4
-      go (Passed s) f q = let same : r ≡ recordOf s = cc in omega (arith, ap (λ (k : Record). k .function) same, function-small file s f)
+      go (Passed s) f q = let same : r ≡ outlineOf s = cc in omega (arith, ap (λ (k : Outline). k .function) same, function-small file s f)
       go (Denied num at) f q = let z : _≡_ {A = ℕ} 0 1 = cc in absurd (omega arith)
 
   -- a refusal is at a word of the file, or at their number

@@ -1,4 +1,4 @@
--- The function of an accepted file is 4 at most: it is 0 before block 04, and that block's row bounds it, in both models. Assumes nothing.
+-- The function of an accepted file is 4 at most: it is 0 before block 04, and that block's row bounds it, in both models.
 use mathlib.Core.Bool.{Bool, true, false, _||_}
 use mathlib.Core.List.{List, []}
 use mathlib.Core.Path.{_≡_, refl, ap}
@@ -9,17 +9,17 @@ use lib.ListN.{getD}
 use borrow.Author.Tests.{eqb-true, eqb-false, ne-eqb}
 use Rattle.words.specs.Words.{low}
 use Rattle.words.proofs.Choice.{cond-first}
-use Rattle.rules.specs.declared.Tested.the-variants.{Good}
-use Rattle.rules.specs.Block.{allows, inForce, obeyed, ruled, rulesIn, kept}
-use Rattle.rules.proofs.BlockLaws.{no-bad, then-good, kept-says}
-use Rattle.tables.specs.declared.setup.Setup.{Setup}
-use Rattle.tables.specs.Table.{within, oneOf, rowOf}
-use Rattle.tables.specs.Setup.{slimOf, learnt, rowFor}
-use Rattle.tables.proofs.TableLaws.{obeyed-within, id-in, row-at, learnt-04}
-use Rattle.accept.specs.declared.judge.State.{State}
-use Rattle.accept.specs.declared.judge.Judged.the-variants.{Passed}
-use Rattle.accept.specs.Judge.{skipped, entered, enteredBy, surveyed}
-use Rattle.reading.proofs.Always.{always}
+use Rattle.file_rules.specs.declared.Tested.the-variants.{Good}
+use Rattle.file_rules.specs.Block.{allows, inForce, obeyed, ruled, rulesIn, kept}
+use Rattle.file_rules.proofs.BlockLaws.{no-bad, then-good, kept-says}
+use Rattle.file_tables.specs.declared.setup.Setup.{Setup}
+use Rattle.file_tables.specs.Table.{within, oneOf, rowOf}
+use Rattle.file_tables.specs.Setup.{slimOf, learnt, rowFor}
+use Rattle.file_tables.proofs.TableLaws.{obeyed-within, id-in, row-at, learnt-04}
+use Rattle.call_check.specs.declared.judge.State.{State}
+use Rattle.call_check.specs.declared.judge.Judged.the-variants.{Passed}
+use Rattle.call_check.specs.Judge.{skipped, entered, enteredBy, surveyed}
+use Rattle.law_read.proofs.Always.{always}
 
 -- a word that is held to three others is no larger than they are
 obeyed-one-of : (b : List ℕ) (off one two three num n : ℕ) → one ≤ n → two ≤ n → three ≤ n → obeyed b (oneOf off one two three num) ≡ Good → getD b off 0 ≤ n

@@ -1,4 +1,4 @@
--- The laws of the exports. Assumes nothing.
+-- The laws of the exports.
 pub mod FunctionLaws
 pub mod FieldLaws
 pub mod ExportLaws

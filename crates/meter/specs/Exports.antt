@@ -1,20 +1,20 @@
 -- How an answer of the four calls stands in the struct that a caller from outside gets: `refusal` is document 01's number, and 0 for
--- success; what an answer does not have is 0 or false, and a start 65,535. Assumes nothing.
+-- success; what an answer does not have is 0 or false, and a start 65,535.
 use mathlib.Core.Bool.{true, false}
 use mathlib.Core.List.{List, [], _∷_}
 use mathlib.Core.Path.{_≡_}
 use Prim.Native.Nat.{ℕ}
 use lib.ListN.{length, drop, replicate}
-use Rattle.accept.specs.Judge.{absent}
-use Rattle.accept.specs.declared.check.Answer.{Answer}
-use Rattle.accept.specs.declared.check.Answer.the-variants.{Accepted, Refused}
-use Rattle.titles.specs.declared.TitleAt.{TitleAt}
-use Rattle.titles.specs.declared.TitleAt.the-variants.{Text, Label}
-use Rattle.pages.specs.Sheet.{sheetTexts}
-use Rattle.sheets.specs.declared.Reply as Sheet
-use Rattle.sheets.specs.Reply as SheetCall
-use Rattle.slims.specs.declared.Reply as Slim
-use Rattle.slims.specs.Copy as SlimCall
+use Rattle.call_check.specs.Judge.{absent}
+use Rattle.call_check.specs.declared.check.Answer.{Answer}
+use Rattle.call_check.specs.declared.check.Answer.the-variants.{Accepted, Refused}
+use Rattle.call_title.specs.declared.TitleAt.{TitleAt}
+use Rattle.call_title.specs.declared.TitleAt.the-variants.{Text, Label}
+use Rattle.sheet_page.specs.Sheet.{sheetTexts}
+use Rattle.call_sheet.specs.declared.Reply as Sheet
+use Rattle.call_sheet.specs.Reply as SheetCall
+use Rattle.call_slim.specs.declared.Reply as Slim
+use Rattle.call_slim.specs.Copy as SlimCall
 use Rattle.meter.specs.declared.CheckReply.{CheckReply}
 use Rattle.meter.specs.declared.TitleReply.{TitleReply}
 use Rattle.meter.specs.declared.SheetReply.{SheetReply}
@@ -30,7 +30,7 @@ checkReply (Accepted r) =
     }
 checkReply (Refused num at) = record { refusal = num; function = 0; starts = replicate 9 absent; at = at }
 
--- Title for a label of so many bytes: "the whole label" is its bytes from byte 0 on
+-- Title for a label of n bytes: "the whole label" is its bytes from byte 0 on
 unfoldable pub titleReply : ℕ → TitleAt → TitleReply
 titleReply n (Text at len) = record { «from_file» = true; at = at; len = len }
 titleReply n Label = record { «from_file» = false; at = 0; len = n }

@@ -1,2 +1,1 @@
--- What the clauses of the crate cite. Assumes nothing.
 pub mod Exports

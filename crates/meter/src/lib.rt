@@ -1,16 +1,16 @@
 // The four calls for callers from outside: an answer as a struct that C and Rust share (include/meter.h).
-use accept::check::Answer;
-use accept::check::check;
-use sheets::Reply as Sheeted;
-use sheets::sheet;
-use slims::Reply as Slimmed;
-use slims::slim;
-use titles::TitleAt;
-use titles::title_at;
+use call_check::check::Answer;
+use call_check::check::check;
+use call_sheet::Reply as Sheeted;
+use call_sheet::sheet;
+use call_slim::Reply as Slimmed;
+use call_slim::slim;
+use call_title::TitleAt;
+use call_title::title_at;
 ghost use mathlib.Core.Path.{_≡_};
 ghost use lib.ListN.{length};
-ghost use Rattle.accept.specs.Check.{verdict};
-ghost use Rattle.titles.specs.Title.{titleAt};
+ghost use Rattle.call_check.specs.Check.{verdict};
+ghost use Rattle.call_title.specs.Title.{titleAt};
 ghost use Rattle.meter.specs.Exports.{checkReply, titleReply, SheetGiven, SlimGiven};
 
 // Check's answer. `refusal` is 0 for an accepted file; `function` is 1 to 4, and 0 in a refused file; `starts` are those of 01, 02, 03,
@@ -132,8 +132,8 @@ pub extern "C" fn meter_slim(file: &[u8], out: &mut [u8]) -> SlimReply
             at: 0,
             bytes,
         },
-        Slimmed::Refused { num, at } => SlimReply {
-            refusal: num,
+        Slimmed::Refused { num: refusal, at } => SlimReply {
+            refusal,
             at: at as u32,
             bytes: 0,
         },

@@ -1,5 +1,5 @@
 // Prints the sheet of the file on standard input, with the argument as the label, or the refusal.
-use prints::sheet_of_input;
+use print_calls::sheet_of_input;
 
 fn main() {
     sheet_of_input();

@@ -1,5 +1,5 @@
 // Prints the slim copy of the file on standard input, or the refusal of the file.
-use prints::slim_of_input;
+use print_calls::slim_of_input;
 
 fn main() {
     slim_of_input();

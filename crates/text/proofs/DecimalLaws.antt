@@ -1,9 +1,8 @@
--- Laws of `decimal` for a loop that makes the digits from the last to the first, in a row,
---     start           the last digit stands in the row
---     turn            a digit more in front of those that stand at the end of the row, and a tenth of the number
+-- Laws of `decimal` for a loop that makes the digits from the last to the first, in a scratch array,
+--     start           the last digit stands in the array
+--     turn            a digit more in front of those that stand at the end of the array, and a tenth of the number
 --     some, fewer     a number of at most `at` digits, at a turn
 --     done            no digit is left
--- Assumes nothing.
 use mathlib.Core.Path.{_≡_, refl, sym, ap, _∙_}
 use mathlib.Core.List.{List, [], _∷_, _++_, append-assoc}
 use Prim.Native.Nat.{ℕ, zero, suc, _+_, _-_, _/_, _%_, _^_, _≤_, _<_}
@@ -40,11 +39,11 @@ drop-set [] i b h = absurd (not-suc-le-zero h)
 drop-set (x ∷ l) zero b h = refl
 drop-set (x ∷ l) (suc i) b h = drop-set l i b (le-of-suc-le-suc h)
 
-pub turn : {text : List ℕ} (row : List ℕ) (at n b : ℕ) → 0 < at → at ≤ length row → 0 < n → b ≡ 48 + n % 10 → digits n n ++ drop at row ≡ text
-    → digits (n / 10) (n / 10) ++ drop (at - 1) (set row (at - 1) b) ≡ text
-turn row at n b ha hl hn hb e =
+pub turn : {text : List ℕ} (scratch : List ℕ) (at n b : ℕ) → 0 < at → at ≤ length scratch → 0 < n → b ≡ 48 + n % 10 → digits n n ++ drop at scratch ≡ text
+    → digits (n / 10) (n / 10) ++ drop (at - 1) (set scratch (at - 1) b) ≡ text
+turn scratch at n b ha hl hn hb e =
     let back : suc (at - 1) ≡ at = omega arith in
-    rw (drop-set row (at - 1) b (omega arith), back, hb) (sym (step n (drop at row) hn) ∙ e)
+    rw (drop-set scratch (at - 1) b (omega arith), back, hb) (sym (step n (drop at scratch) hn) ∙ e)
 
 pub some : (n at : ℕ) → 0 < n → n < 10 ^ at → 0 < at
 some n zero h k = omega arith

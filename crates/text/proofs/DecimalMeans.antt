@@ -1,4 +1,4 @@
--- What `decimal` means: its bytes are digits, it reads back as its number, and but for 0 its first digit is no zero. Assumes nothing.
+-- What `decimal` means: its bytes are digits, it reads back as its number, and but for 0 its first digit is no zero.
 use mathlib.Core.Path.{_≡_, refl, _∙_}
 use mathlib.Core.List.{List, [], _∷_, _++_, append-assoc}
 use Prim.Native.Nat.{ℕ, zero, suc, _+_, _-_, _*_, _/_, _%_, _≤_, _<_, suc-le-suc}

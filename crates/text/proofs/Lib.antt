@@ -1,6 +1,6 @@
--- The laws that the proofs share. Assumes nothing.
+-- The laws of writers, numbers, nulls and tables of names.
 pub mod DecimalLaws
 pub mod DecimalMeans
-pub mod FitLaws
+pub mod NameLaws
 pub mod Nulls
 pub mod Writing

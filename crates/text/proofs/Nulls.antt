@@ -1,4 +1,4 @@
--- A text up to its first null is the front of the bytes that it stands in. Assumes nothing.
+-- A text up to its first null is the front of the bytes that it stands in.
 use mathlib.Core.Bool.{Bool, true, false, cond}
 use mathlib.Core.List.{List, [], _∷_}
 use mathlib.Core.Path.{_≡_, refl, ap}

@@ -1,7 +1,6 @@
 -- Laws of `Wrote`: how writers are put one after another.
 --     _then_     u at the front, and then v at the front of what is left, is u ++ v at the front
 --     at-most    a bound may be raised
--- Assumes nothing.
 use mathlib.Core.Path.{_≡_, refl, sym, ap, _∙_, subst}
 use mathlib.Core.List.{List, [], _∷_, _++_, append-assoc, append-nil, map}
 use Prim.Native.Nat.{ℕ, _+_, _-_, _≤_, _<_}
@@ -94,6 +93,6 @@ wrote-one w x = (w .out ∙ sym (x .out), w .counted ∙ sym (x .counted))
 pub front : {u d e : List ℕ} {n p : ℕ} → Wrote u p d e n → take n e ≡ u
 front {u} {d} w = rw (w .out, w .counted) (take-append-seam u (drop (length u) d))
 
--- the same as the part `&row[0..n]` has it
+-- the same as the part `&scratch[0..n]` has it
 pub front-part : {u d e : List ℕ} {n p : ℕ} → Wrote u p d e n → take (n - 0) e ≡ u
 front-part {e = e} {n} w = ap (λ (k : ℕ). take k e) (sub-zero n) ∙ front w

@@ -1,4 +1,4 @@
--- "Other numbers are unsigned decimal, no leading zeros" (document 01, Words and numbers). Assumes nothing.
+-- "Other numbers are unsigned decimal, no leading zeros" (document 01, Words and numbers).
 use mathlib.Core.List.{List, [], _∷_, _++_}
 use Prim.Native.Nat.{ℕ, zero, suc, _+_, _-_, _*_, _/_, _%_}
 
@@ -16,7 +16,7 @@ digits (suc steps) (suc n) = digits steps (suc n / 10) ++ lastDigit (suc n)
 unfoldable pub decimal : ℕ → List ℕ
 decimal n = digits (n / 10) (n / 10) ++ lastDigit n
 
--- what a reader makes of digits behind the number n
+-- what a reader makes of digits after the number n
 unfoldable pub read : ℕ → List ℕ → ℕ
 read n [] = n
 read n (d ∷ ds) = read (10 * n + (d - 48)) ds

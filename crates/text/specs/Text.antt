@@ -1,4 +1,4 @@
--- What a writer does: it puts a text at the front of what it is lent, and leaves the rest as it was. Assumes nothing.
+-- What a writer does: it puts a text at the front of what it is lent, and leaves the rest as it was.
 use mathlib.Core.Bool.{cond}
 use mathlib.Core.Path.{_≡_}
 use mathlib.Core.List.{List, [], _∷_, _++_}
@@ -24,3 +24,8 @@ shown b = cond (ltb b 0x20) 63 (cond (ltb 0x7E b) 63 b)
 unfoldable pub beforeNull : List ℕ → List ℕ
 beforeNull [] = []
 beforeNull (b ∷ bs) = cond (eqb b 0) [] (b ∷ beforeNull bs)
+
+-- the name that a table has for a code; nothing for a code that it has not
+unfoldable pub named : List (ℕ × List ℕ) → ℕ → List ℕ
+named [] code = []
+named (n ∷ ns) code = cond (eqb code (n .0)) (n .1) (named ns code)

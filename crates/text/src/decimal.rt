@@ -21,21 +21,21 @@ pub fn put_digit(out: &mut [u8], n: u64) -> usize
     put_byte(out, digit(n))
 }
 
-// v where just its digits fit. They are made from the last to the first in a row of their own, and copied.
+// v where just its digits fit. They are made from the last to the first in a scratch array, and copied.
 fn put_digits(out: &mut [u8], v: u64) -> usize
     requires { ⌜ length (decimal v) ≤ length (now out) ⌝ }
     ensures { λ r. ⌜ Wrote (decimal v) (length (decimal v)) (now (out .entry)) (now (out .exit)) r ⌝ }
 {
-    let mut row = [0u8; 20];
+    let mut scratch = [0u8; 20];
     let mut at = 19;
-    row[19] = digit(v);
+    scratch[19] = digit(v);
     let mut n = v / 10;
     while n > 0 {
         at -= 1;
-        row[at] = digit(n);
+        scratch[at] = digit(n);
         n /= 10;
     }
-    put_bytes(out, &row[at..])
+    put_bytes(out, &scratch[at..])
 }
 
 // Any number of 64 bits.

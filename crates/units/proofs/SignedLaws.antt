@@ -1,4 +1,4 @@
--- Laws of signed numbers: a word in two's complement, a sum, and a number's size and sign. Assumes nothing.
+-- Laws of signed numbers: a word in two's complement, a sum, and a number's size and sign.
 use mathlib.Core.Bool.{Bool, true, false, cond}
 use mathlib.Core.List.{_∷_}
 use mathlib.Core.Path.{_≡_, ap, ap₂, _∙_}

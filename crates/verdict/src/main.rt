@@ -1,7 +1,7 @@
 // Prints the answer of Check to the file on standard input.
 use libc::STDIN_FILENO;
 use libc::STDOUT_FILENO;
-use replies::put_verdict;
+use print_check::put_verdict;
 
 fn main() {
     // A file may have 65,536 bytes. One more decides that it is refused, whatever follows, so no more is read.

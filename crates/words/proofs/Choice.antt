@@ -1,4 +1,4 @@
--- What a choice that came out so says of its test. Assumes nothing.
+-- What a choice that came out so says of its test.
 use mathlib.Core.Path.{_≡_, refl}
 use mathlib.Core.Bool.{Bool, true, false, cond, _&&_, _||_, true≢false, false≢true}
 

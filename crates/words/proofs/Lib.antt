@@ -1,3 +1,4 @@
--- The laws of words and their bytes, and of choices. Assumes nothing.
+-- The laws of words and their bytes, of choices, and of numbers one after another.
 pub mod Choice
+pub mod NumberLaws
 pub mod WordLaws

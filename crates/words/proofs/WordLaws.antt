@@ -1,5 +1,5 @@
 -- The laws of words: how many there are, what stands at one, the words of a part, and back to the bytes.
--- With these nothing above has to look at a byte. Assumes nothing.
+-- With these nothing above has to look at a byte.
 use mathlib.Core.Path.{_≡_, refl, sym, ap, _∙_}
 use mathlib.Core.List.{List, [], _∷_, _++_}
 use Prim.Native.Nat.{ℕ, zero, suc, _+_, _-_, _*_, _/_, _%_, _≤_, _<_}

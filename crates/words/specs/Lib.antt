@@ -1,2 +1,2 @@
--- What the clauses of the crate cite. Assumes nothing.
 pub mod Words
+pub mod Numbers

@@ -1,4 +1,4 @@
--- "Words are two bytes, low byte first. .. A 32-bit field has its low word first" (document 01, Words and numbers). Assumes nothing.
+-- "Words are two bytes, low byte first. .. A 32-bit field has its low word first" (document 01, Words and numbers).
 use mathlib.Core.Path.{_≡_}
 use mathlib.Core.List.{List, [], _∷_}
 use Prim.Native.Nat.{ℕ, _+_, _*_, _/_, _%_}

@@ -3,6 +3,13 @@ ghost use mathlib.Core.Path.{_≡_};
 ghost use lib.ListN.{length, getD, take, drop};
 ghost use Rattle.words.specs.Words.{wordsOf, longAt, Holds};
 
+// A word of each of the three profiles.
+pub struct Three {
+    pub first: u16,
+    pub second: u16,
+    pub third: u16,
+}
+
 // How many words there are. A byte that is left over at the end is no word.
 pub fn count(bytes: &[u8]) -> usize
     ensures { λ r. ⌜ r ≡ length (wordsOf (now (bytes .entry))) ⌝ }

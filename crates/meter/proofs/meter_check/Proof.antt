@@ -1,4 +1,4 @@
--- `meter_check` answers the verdict as a struct. Assumes nothing.
+-- `meter_check` answers the verdict as a struct.
 use native.Mathlib.Omega.{arith}
 use borrow.Author.Needs.{needs}
 use Rattle.meter.proofs.FieldLaws.{accepted-function, checked-near}

@@ -1,4 +1,4 @@
--- `meter_sheet` answers and writes as Sheet does. Assumes nothing.
+-- `meter_sheet` answers and writes as Sheet does.
 use native.Mathlib.Omega.{arith}
 use borrow.Author.Needs.{needs}
 use Rattle.meter.proofs.FieldLaws.{sheeted-near}

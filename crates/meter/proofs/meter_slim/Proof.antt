@@ -1,4 +1,4 @@
--- `meter_slim` answers and writes as Slim does. Assumes nothing.
+-- `meter_slim` answers and writes as Slim does.
 use native.Mathlib.Omega.{arith}
 use borrow.Author.Needs.{needs}
 use Rattle.meter.proofs.FieldLaws.{slimmed-near}
@@ -9,7 +9,7 @@ use Rattle.meter.proofs.meter_slim.Tie as tie
 cast-t10 : tie.Need-cast-t10
 cast-t10 c =
     let r = c .before in
-    omega (arith, slimmed-near (r .before .before .before .before .slim .ensures) (r .num .given .1))
+    omega (arith, slimmed-near (r .before .before .before .before .slim .ensures) (r .refusal .given .1))
 
 returns : tie.Need-returns
 returns c =
@@ -19,7 +19,7 @@ returns c =
 returns-2 : tie.Need-returns-2
 returns-2 c =
     let r = c .before in
-    slim-refused (r .before .before .before .before .slim .ensures) (r .num .given .1)
+    slim-refused (r .before .before .before .before .slim .ensures) (r .refusal .given .1)
 
 pub meter-slim-spec : {M : Type 1} → statement M
 meter-slim-spec =

@@ -1,4 +1,4 @@
--- `meter_title` answers where the title stands as a struct. Assumes nothing.
+-- `meter_title` answers where the title stands as a struct.
 use lib.ListN.{length}
 use borrow.Author.Needs.{needs}
 use Rattle.meter.proofs.ExportLaws.{title-text, title-label}

@@ -1,4 +1,3 @@
--- `words::count` meets its contract. Assumes nothing.
 use mathlib.Core.Path.{sym}
 use Rattle.words.proofs.WordLaws.{words-length}
 use Rattle.words.proofs.count.Statement.{statement}

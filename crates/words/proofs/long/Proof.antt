@@ -1,4 +1,3 @@
--- `words::long` meets its contract. Assumes nothing.
 use borrow.Author.Needs.{needs}
 use Rattle.words.specs.Words.{wordsOf}
 use Rattle.words.proofs.WordLaws.{long-from}

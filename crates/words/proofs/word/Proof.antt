@@ -1,4 +1,4 @@
--- `words::word` meets its contract. Each of the two bytes is below 256, by the slice's rule. Assumes nothing.
+-- `words::word` meets its contract. Each of the two bytes is below 256, by the slice's rule.
 use borrow.Author.Needs.{needs}
 use native.Mathlib.Omega.{arith}
 use mathlib.Core.Path.{sym}

@@ -1,4 +1,3 @@
--- `decimal::put_digit` meets its contract. Assumes nothing.
 use borrow.Author.Needs.{needs}
 use mathlib.Core.List.{[], _∷_}
 use mathlib.Core.Path.{ap}

@@ -1,4 +1,4 @@
--- `decimal::put_digits` meets its contract. In the row stand the last digits; those that are left, before them, are the number. Assumes nothing.
+-- `decimal::put_digits` meets its contract. In the scratch array stand the last digits; those that are left, before them, are the number.
 use borrow.Author.Needs.{needs}
 use mathlib.Core.Path.{_≡_, refl, _∙_}
 use mathlib.Core.List.{_++_}
@@ -12,10 +12,10 @@ use Rattle.text.proofs.decimal.put_digits.Statement.{statement}
 use Rattle.text.proofs.decimal.put_digits.Tie as tie
 
 abbrev Inv-loop : tie.InvT-loop
-Inv-loop out v row₀ at₀ n₀ row at n = (at ≤ 19) × (n < 10 ^ at) × (length row ≡ 20) × (digits n n ++ drop at row ≡ decimal v)
+Inv-loop out v scratch₀ at₀ n₀ scratch at n = (at ≤ 19) × (n < 10 ^ at) × (length scratch ≡ 20) × (digits n n ++ drop at scratch ≡ decimal v)
 
 abbrev μ-loop : tie.MeasureT-loop
-μ-loop out v row₀ at₀ n₀ row at n = n
+μ-loop out v scratch₀ at₀ n₀ scratch at n = n
 
 loop-holds : tie.Need-loop-holds Inv-loop μ-loop
 loop-holds c = (search needs, search needs, refl, start (c .before .before .args .v) _ (c .digit .ensures))
@@ -27,13 +27,13 @@ loop-again : tie.Need-loop-again Inv-loop μ-loop
 loop-again c =
     let l = c .before .before .loop in
     let h : 0 < l .at = some (l .n) (l .at) (c .before .loop-test .taken) (l .inv .1) in
-    (omega arith, fewer (l .n) (l .at) h (l .inv .1), simp length-set (l .inv .2), turn (l .row) (l .at) (l .n) _ h (omega arith) (c .before .loop-test .taken) (c .digit2 .ensures) (l .inv .3))
+    (omega arith, fewer (l .n) (l .at) h (l .inv .1), simp length-set (l .inv .2), turn (l .scratch) (l .at) (l .n) _ h (omega arith) (c .before .loop-test .taken) (c .digit2 .ensures) (l .inv .3))
 
 -- what is copied is the number's text
-copied : (c : tie.After-loop Inv-loop μ-loop) → let l = c .before .loop in take (20 - l .at) (drop (l .at) (l .row)) ≡ decimal (c .before .before .before .before .args .v)
+copied : (c : tie.After-loop Inv-loop μ-loop) → let l = c .before .loop in take (20 - l .at) (drop (l .at) (l .scratch)) ≡ decimal (c .before .before .before .before .args .v)
 copied c =
     let l = c .before .loop in
-    rest-of (l .at) 20 (l .row) (l .inv .2) ∙ done (l .n) (c .loop-test .left) (l .inv .3)
+    rest-of (l .at) 20 (l .scratch) (l .inv .2) ∙ done (l .n) (c .loop-test .left) (l .inv .3)
 
 put-bytes-requires : tie.Need-put-bytes-requires Inv-loop μ-loop
 put-bytes-requires c κs = rw (copied (c .before .before .before)) (c .before .before .before .before .before .before .before .pre)

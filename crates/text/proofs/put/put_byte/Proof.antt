@@ -1,4 +1,3 @@
--- `put::put_byte` meets its contract. Assumes nothing.
 use borrow.Author.Needs.{needs}
 use Rattle.text.proofs.Writing.{stored}
 use Rattle.text.proofs.put.put_byte.Statement.{statement}

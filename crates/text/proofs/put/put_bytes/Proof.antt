@@ -1,4 +1,3 @@
--- `put::put_bytes` meets its contract. Assumes nothing.
 use borrow.Author.Needs.{needs}
 use lib.ListN.{length, take}
 use lib.Seq.{take-all}

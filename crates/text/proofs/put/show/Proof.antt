@@ -1,4 +1,3 @@
--- `put::show` meets its contract. Assumes nothing.
 use native.Mathlib.Omega.{arith}
 use borrow.Author.Tests.{lt-ltb, le-ltb}
 use Rattle.text.proofs.put.show.Statement.{statement}

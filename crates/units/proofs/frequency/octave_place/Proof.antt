@@ -1,4 +1,4 @@
--- `frequency::octave_place` is `bandPlace` on the list of 1/1 octaves; its last five are over a word. Assumes nothing.
+-- `frequency::octave_place` is `bandPlace` on the list of 1/1 octaves; its last five are over a word.
 use mathlib.Core.Path.{refl}
 use native.Mathlib.Omega.{arith}
 use borrow.Author.Needs.{needs}

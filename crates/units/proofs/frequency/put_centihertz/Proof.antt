@@ -1,4 +1,3 @@
--- `frequency::put_centihertz` meets its contract. Assumes nothing.
 use borrow.Author.Needs.{needs}
 use Rattle.units.specs.Frequency.{centihertz}
 use Rattle.text.proofs.Writing.{_then_}

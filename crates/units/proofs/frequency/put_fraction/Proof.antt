@@ -1,4 +1,3 @@
--- `frequency::put_fraction` meets its contract. Assumes nothing.
 use borrow.Author.Needs.{needs}
 use native.Mathlib.Omega.{arith}
 use Prim.Native.Nat.{_%_}

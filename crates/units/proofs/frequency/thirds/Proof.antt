@@ -1,4 +1,4 @@
--- `frequency::thirds` meets its contract: the constant is the table that the rule gives, value by value. Assumes nothing.
+-- `frequency::thirds` meets its contract: the constant is the table that the rule gives, value by value.
 use mathlib.Core.Path.{refl}
 use Rattle.units.specs.Frequency.{thirds}
 use Rattle.units.proofs.frequency.thirds.Statement.{statement}

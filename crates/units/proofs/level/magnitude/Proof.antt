@@ -1,4 +1,3 @@
--- `level::magnitude` meets its contract. Assumes nothing.
 use mathlib.Core.Path.{refl}
 use native.Mathlib.Omega.{arith}
 use lib.Signed.{natAbs-le}

@@ -1,4 +1,3 @@
--- `level::put_fixed` meets its contract. Assumes nothing.
 use borrow.Author.Needs.{needs}
 use Rattle.units.specs.Level.{fixed}
 use Rattle.text.proofs.Writing.{_then_}

@@ -1,4 +1,3 @@
--- `level::put_signed` meets its contract. Assumes nothing.
 use borrow.Author.Needs.{needs}
 use mathlib.Core.Path.{refl}
 use mir.Facts.{toZ-ofZ}

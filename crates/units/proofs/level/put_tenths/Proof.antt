@@ -1,4 +1,3 @@
--- `level::put_tenths` meets its contract. Assumes nothing.
 use borrow.Author.Needs.{needs, sfits-of}
 use mir.Facts.{toZ-ofZ}
 use mir.Syntax.{w32}

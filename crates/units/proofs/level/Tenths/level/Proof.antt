@@ -1,4 +1,3 @@
--- `level::Tenths::level` meets its contract. Assumes nothing.
 use borrow.Author.Needs.{needs, sfits-of}
 use mathlib.Core.Path.{ap, _∙_}
 use mir.Syntax.{w16, w32}

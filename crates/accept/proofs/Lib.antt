@@ -1,8 +1,0 @@
--- The laws of the judgement and of the starts. Assumes nothing.
-pub mod Turns
-pub mod Seen
-pub mod Late
-pub mod Onward
-pub mod Found
-pub mod FoundWords
-pub mod Answers

@@ -1,2 +1,0 @@
--- What the statements of the crate cite. Assumes nothing.
-pub mod Additions

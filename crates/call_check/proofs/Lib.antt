@@ -1,0 +1,8 @@
+-- The laws of the judgement and of the starts.
+pub mod Turns
+pub mod Seen
+pub mod Late
+pub mod Onward
+pub mod Found
+pub mod FoundWords
+pub mod Answers

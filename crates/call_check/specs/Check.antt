@@ -1,0 +1,46 @@
+-- What Check answers (document 01, What the converter takes).
+use mathlib.Core.List.{List, [], _∷_}
+use mathlib.Core.Path.{_≡_}
+use Prim.Native.Nat.{ℕ}
+use Rattle.call_check.specs.declared.judge.State.{State}
+use Rattle.call_check.specs.declared.judge.Judged.{Judged}
+use Rattle.call_check.specs.declared.judge.Judged.the-variants.{Passed, Denied}
+use Rattle.call_check.specs.declared.check.Outline.{Outline}
+use Rattle.call_check.specs.declared.check.Answer.{Answer}
+use Rattle.call_check.specs.declared.check.Answer.the-variants.{Accepted, Refused}
+use Rattle.call_check.specs.Judge.{surveyed}
+
+-- "The record holds the function, and the start word of each of 01, 02, 03, 04, 05, 07, spectrum (0E or 10), 09 and 0F"
+unfoldable pub outlineOf : State → Outline
+outlineOf s =
+    record {
+      function = s .setup .function;
+      file = s .starts .file;
+      unit = s .starts .unit;
+      title = s .starts .title;
+      setup = s .starts .setup;
+      profiles = s .starts .profiles;
+      results = s .starts .results;
+      spectrum = s .starts .spectrum;
+      statistics = s .starts .statistics;
+      logger = s .starts .logger;
+    }
+
+unfoldable pub answered : Judged → Answer
+answered (Passed s) = Accepted (outlineOf s)
+answered (Denied num at) = Refused num at
+
+-- the answer of Check to a file's bytes
+unfoldable pub verdict : List ℕ → Answer
+verdict file = answered (surveyed file)
+
+-- document 01's numbers and values for each answer: a refusal's number and position; for an acceptance 0, which is no
+-- refusal's number, the function and the nine starts
+unfoldable pub values : Answer → List ℕ
+values (Accepted r) =
+    0 ∷ (r .function ∷ (r .file ∷ (r .unit ∷ (r .title ∷ (r .setup ∷ (r .profiles ∷ (r .results ∷ (r .spectrum ∷ (r .statistics ∷ (r .logger ∷ []))))))))))
+values (Refused num at) = num ∷ (at ∷ [])
+
+-- the promise of Check: its answer has the number and the values of the verdict
+unfoldable pub Checked : List ℕ → Answer → Type 0
+Checked file answer = values answer ≡ values (verdict file)

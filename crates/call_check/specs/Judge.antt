@@ -1,0 +1,135 @@
+-- The walk judged block by block: the first fault in file order, or what is known at the end (document 01, Refusal numbers).
+use mathlib.Core.Bool.{Bool, cond, _||_}
+use mathlib.Core.List.{List, []}
+use Prim.Native.Nat.{ℕ, _+_, _%_, _<_}
+use lib.Dec.{eqb, ltb}
+use lib.ListN.{length, getD, take, drop}
+use Rattle.words.specs.Words.{wordsOf}
+use Rattle.file_walk.specs.declared.Step.{Step}
+use Rattle.file_walk.specs.declared.Step.the-variants.{Block, Over}
+use Rattle.file_walk.specs.declared.Stop.{Stop}
+use Rattle.file_walk.specs.declared.Stop.the-variants.{End, Refused}
+use Rattle.file_walk.specs.Walk.{Walk, over, block, walked, endMarker}
+use Rattle.file_rules.specs.declared.Row.{Row}
+use Rattle.file_rules.specs.declared.Tested.{Tested}
+use Rattle.file_rules.specs.declared.Tested.the-variants.{Good, Bad}
+use Rattle.file_rules.specs.Block.{kept, offsetBy}
+use Rattle.file_tables.specs.declared.setup.Setup.{Setup}
+use Rattle.file_tables.specs.declared.order.Due.{Due}
+use Rattle.call_check.specs.declared.judge.Starts.{Starts}
+use Rattle.call_check.specs.declared.judge.State.{State}
+use Rattle.call_check.specs.declared.judge.Judged.{Judged}
+use Rattle.call_check.specs.declared.judge.Judged.the-variants.{Passed, Denied}
+use Rattle.file_tables.specs.Setup.{noSetup, slimOf, learnt, rowFor}
+use Rattle.file_tables.specs.Order.{keyOf, only, isDue, passedOver, dueAfter}
+
+-- "65,535 stands for an absent block"
+abbrev pub absent : ℕ
+absent = 65535
+
+abbrev pub noStarts : Starts
+noStarts =
+    record {
+      file = absent;
+      unit = absent;
+      title = absent;
+      setup = absent;
+      profiles = absent;
+      results = absent;
+      spectrum = absent;
+      statistics = absent;
+      counts1 = absent;
+      counts2 = absent;
+      counts3 = absent;
+      logger = absent;
+    }
+
+-- where a start is noted: 0E and 10 have one place, "spectrum (0E or 10)"
+unfoldable pub placeOf : ℕ → ℕ
+placeOf key = cond (eqb key 0x10) 0x0E key
+
+-- the start of a block, at its place
+unfoldable pub noted : Starts → ℕ → ℕ → Starts
+noted s place at =
+    record {
+      file = cond (eqb place 0x01) at (s .file);
+      unit = cond (eqb place 0x02) at (s .unit);
+      title = cond (eqb place 0x03) at (s .title);
+      setup = cond (eqb place 0x04) at (s .setup);
+      profiles = cond (eqb place 0x05) at (s .profiles);
+      results = cond (eqb place 0x07) at (s .results);
+      spectrum = cond (eqb place 0x0E) at (s .spectrum);
+      statistics = cond (eqb place 0x09) at (s .statistics);
+      counts1 = cond (eqb place 0x010B) at (s .counts1);
+      counts2 = cond (eqb place 0x020B) at (s .counts2);
+      counts3 = cond (eqb place 0x040B) at (s .counts3);
+      logger = cond (eqb place 0x0F) at (s .logger);
+    }
+
+abbrev pub firstState : State
+firstState = record { due = only 0x01; setup = noSetup; starts = noStarts }
+
+-- a block that is not listed is passed over
+unfoldable pub skipped : State → State
+skipped s = record { due = passedOver (s .due); setup = s .setup; starts = s .starts }
+
+-- a listed block that starts at word `at` has been there, and this is known now
+unfoldable pub entered : State → ℕ → ℕ → Setup → State
+entered s key at known = record { due = dueAfter known key; setup = known; starts = noted (s .starts) (placeOf key) at }
+
+-- the same by the block's own words; no state depends on raw contents
+unfoldable pub enteredBy : State → ℕ → List ℕ → State
+enteredBy s at b = entered s (keyOf (getD b 0 0)) at (learnt (s .setup) (slimOf (s .setup) b []))
+
+-- "order (4), long form not allowed or short (3), then words": a listed block, against what is due and its row
+unfoldable pub testedBy : Row → Due → List ℕ → Tested
+testedBy r d b = cond (isDue d (keyOf (getD b 0 0))) (kept r b) (Bad 4 0)
+
+-- the state that a test lets through, or its refusal
+unfoldable pub judgedBy : State → Tested → Judged
+judgedBy s Good = Passed s
+judgedBy s (Bad num at) = Denied num at
+
+-- a block that starts at word `at`
+unfoldable pub seenBy : Row → State → ℕ → List ℕ → Judged
+seenBy r s at b =
+    cond (r .listed)
+    (judgedBy (enteredBy s at b) (offsetBy at (testedBy r (s .due) b)))
+    (Passed (skipped s))
+
+unfoldable pub seenIn : State → ℕ → List ℕ → Judged
+seenIn s at b = seenBy (rowFor (s .setup) (getD b 0 0)) s at b
+
+-- the end of the walk: "the end marker out of order" is 4, "a word after the end marker" 9 at the first such word
+unfoldable pub closed : State → Stop → Judged
+closed s (End at left) =
+    cond (isDue (s .due) endMarker) (cond (eqb left 0) (Passed s) (Denied 9 (at + 1))) (Denied 4 at)
+closed s (Refused num at) = Denied num at
+
+-- one step of the walk over the words ws
+unfoldable pub judgedStep : State → List ℕ → Step → Judged
+judgedStep s ws (Block id nn start len next) = seenIn s start (take len (drop start ws))
+judgedStep s ws (Over stop) = closed s stop
+
+-- the whole walk
+unfoldable pub judge : State → Walk → Judged
+judge s (over stop) = closed s stop
+judge s (block at b raw w) = elim (seenIn s at b) [ Passed s′ ↦ judge s′ w | Denied num p ↦ Denied num p ]
+
+-- "byte length odd or over 65,536"
+unfoldable pub misfit : List ℕ → Bool
+misfit file = eqb (length file % 2) 1 || ltb 65536 (length file)
+
+-- "The order is 1; then file order"
+unfoldable pub surveyed : List ℕ → Judged
+surveyed file = cond (misfit file) (Denied 1 0) (judge firstState (walked (wordsOf file)))
+
+-- ---- what the code asks of a step: it starts in a file of at most 32,768 words
+
+abbrev pub Ends : Stop → Type 0
+Ends (End at left) = at < 65536
+Ends (Refused num at) = Unit {0}
+
+abbrev pub Near : Step → Type 0
+Near (Block id nn start len next) = start < 65536
+Near (Over stop) = Ends stop

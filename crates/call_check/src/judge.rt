@@ -1,0 +1,221 @@
+// The walk over a file, judged block by block.
+use file_rules::Tested;
+use file_rules::keeps;
+use file_tables::order::Due;
+use file_tables::order::key_of;
+use file_tables::setup::Setup;
+use file_walk::Cursor;
+use file_walk::Step;
+use file_walk::Stop;
+use words::front;
+use words::rest;
+use words::word;
+ghost use mathlib.Core.Path.{_≡_};
+ghost use Prim.Native.Nat.{_<_, _≤_};
+ghost use lib.ListN.{length};
+ghost use Rattle.words.specs.Words.{wordsOf};
+ghost use Rattle.file_walk.specs.Walk.{walked};
+ghost use Rattle.call_check.specs.Judge.{noStarts, placeOf, noted, firstState, skipped, enteredBy, seenIn, closed, judgedStep, judge, surveyed, Ends, Near};
+
+// The start word of each listed block; 65,535 where it is absent.
+pub struct Starts {
+    pub file: u16,
+    pub unit: u16,
+    pub title: u16,
+    pub setup: u16,
+    pub profiles: u16,
+    pub results: u16,
+    pub spectrum: u16,
+    pub statistics: u16,
+    pub counts1: u16,
+    pub counts2: u16,
+    pub counts3: u16,
+    pub logger: u16,
+}
+
+// What is known between two blocks.
+pub struct State {
+    pub due: Due,
+    pub setup: Setup,
+    pub starts: Starts,
+}
+
+// What became of a state: it goes on, or the file is refused.
+pub enum Judged {
+    Passed(State),
+    Denied { num: u8, at: usize },
+}
+
+const ABSENT: u16 = 65535;
+
+// The place at which a block's start is noted: 1/1 and 1/3 octave spectra have one.
+fn place_of(key: u16) -> u16
+    ensures { λ r. ⌜ r ≡ placeOf key ⌝ }
+{
+    if key == 0x10 { 0x0E } else { key }
+}
+
+impl Starts {
+    fn none() -> Starts
+        ensures { λ r. ⌜ r ≡ noStarts ⌝ }
+    {
+        Starts {
+            file: ABSENT,
+            unit: ABSENT,
+            title: ABSENT,
+            setup: ABSENT,
+            profiles: ABSENT,
+            results: ABSENT,
+            spectrum: ABSENT,
+            statistics: ABSENT,
+            counts1: ABSENT,
+            counts2: ABSENT,
+            counts3: ABSENT,
+            logger: ABSENT,
+        }
+    }
+
+    fn noted(self, place: u16, at: u16) -> Starts
+        ensures { λ r. ⌜ r ≡ noted self place at ⌝ }
+    {
+        let mut s = self;
+        match place {
+            0x01 => s.file = at,
+            0x02 => s.unit = at,
+            0x03 => s.title = at,
+            0x04 => s.setup = at,
+            0x05 => s.profiles = at,
+            0x07 => s.results = at,
+            0x0E => s.spectrum = at,
+            0x09 => s.statistics = at,
+            0x010B => s.counts1 = at,
+            0x020B => s.counts2 = at,
+            0x040B => s.counts3 = at,
+            0x0F => s.logger = at,
+            _ => {}
+        }
+        s
+    }
+}
+
+impl State {
+    fn first() -> State
+        ensures { λ r. ⌜ r ≡ firstState ⌝ }
+    {
+        State {
+            due: Due::only(0x01),
+            setup: Setup::none(),
+            starts: Starts::none(),
+        }
+    }
+
+    // A block that is not listed is passed over.
+    fn skipped(self) -> State
+        ensures { λ r. ⌜ r ≡ skipped self ⌝ }
+    {
+        let due = self.due;
+        let setup = self.setup;
+        let starts = self.starts;
+        State {
+            due: due.passed_over(),
+            setup,
+            starts,
+        }
+    }
+
+    // A listed block at word `at` that was kept.
+    fn entered(self, b: &[u8], at: usize) -> State
+        requires { ⌜ at < 65536 ⌝ }
+        ensures { λ r. ⌜ r ≡ enteredBy self at (wordsOf (now (b .entry))) ⌝ }
+    {
+        let key = key_of(word(b, 0));
+        let setup = self.setup.learnt(b);
+        State {
+            due: Due::after(setup, key),
+            setup,
+            starts: self.starts.noted(place_of(key), at as u16),
+        }
+    }
+
+    // The block b, which starts at word `at`.
+    fn seen(self, b: &[u8], at: usize) -> Judged
+        requires { ⌜ at < 65536 ⌝ }
+        ensures { λ r. ⌜ r ≡ seenIn self at (wordsOf (now (b .entry))) ⌝ }
+    {
+        let header = word(b, 0);
+        let row = self.setup.row_for(header);
+        if !row.listed {
+            return Judged::Passed(self.skipped());
+        }
+        if !self.due.has(key_of(header)) {
+            return Judged::Denied { num: 4, at };
+        }
+        match keeps(b, at, row) {
+            Tested::Good => Judged::Passed(self.entered(b, at)),
+            Tested::Bad { num, at } => Judged::Denied { num, at },
+        }
+    }
+
+    // The end of the walk.
+    fn closed(self, stop: Stop) -> Judged
+        requires { ⌜ Ends stop ⌝ }
+        ensures { λ r. ⌜ r ≡ closed self stop ⌝ }
+    {
+        match stop {
+            Stop::End { at, left } => {
+                if !self.due.has(0xFFFF) {
+                    return Judged::Denied { num: 4, at };
+                }
+                if left != 0 {
+                    return Judged::Denied { num: 9, at: at + 1 };
+                }
+                Judged::Passed(self)
+            }
+            Stop::Refused { num, at } => Judged::Denied { num, at },
+        }
+    }
+
+    // One step of the walk.
+    fn judged(self, file: &[u8], step: Step) -> Judged
+        requires { ⌜ Near step ⌝ }
+        ensures { λ r. ⌜ r ≡ judgedStep self (wordsOf (now (file .entry))) step ⌝ }
+    {
+        match step {
+            Step::Block { start, length, .. } => self.seen(front(rest(file, start), length), start),
+            Step::Over(stop) => self.closed(stop),
+        }
+    }
+}
+
+fn judge_blocks(file: &[u8]) -> Judged
+    requires { ⌜ length (now file) ≤ 65536 ⌝ }
+    ensures { λ r. ⌜ r ≡ judge firstState (walked (wordsOf (now (file .entry)))) ⌝ }
+{
+    let mut cursor = Cursor::start();
+    let mut state = State::first();
+    loop {
+        let step = cursor.step(file);
+        let Step::Block { next, .. } = step else {
+            return state.judged(file, step);
+        };
+        let judged = state.judged(file, step);
+        let Judged::Passed(passed) = judged else {
+            return judged;
+        };
+        state = passed;
+        cursor = next;
+    }
+}
+
+// The file's state at its end, or its first fault.
+pub fn survey(file: &[u8]) -> Judged
+    ensures { λ r. ⌜ r ≡ surveyed (now (file .entry)) ⌝ }
+{
+    if file.len() % 2 == 1 {
+        return Judged::Denied { num: 1, at: 0 };
+    }
+    if 65536 < file.len() {
+        return Judged::Denied { num: 1, at: 0 };
+    }
+    judge_blocks(file)
+}

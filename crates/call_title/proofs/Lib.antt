@@ -1,0 +1,3 @@
+-- The laws of texts and of the title.
+pub mod Texts
+pub mod TitleLaws

@@ -1,2 +1,0 @@
--- The checked files. Assumes nothing.
-pub mod Closed

@@ -1,0 +1,3 @@
+pub mod Table
+pub mod Setup
+pub mod Order

@@ -1,0 +1,2 @@
+-- The checked files.
+pub mod Closed

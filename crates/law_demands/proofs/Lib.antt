@@ -1,0 +1,5 @@
+-- The promises.
+pub mod Calls
+pub mod Growing
+pub mod InstancesShown
+pub mod ClosedLists

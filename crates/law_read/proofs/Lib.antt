@@ -1,0 +1,8 @@
+-- What an accepted file says, read where its blocks start.
+pub mod Always
+pub mod SetupLaws
+pub mod ClassLaws
+pub mod ReadLaws
+pub mod TitleBrief
+pub mod SpectrumLaws
+pub mod LoggerLaws

@@ -1,1 +1,0 @@
-// How long a line may be is shown in proofs/: there is no code here.

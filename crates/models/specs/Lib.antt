@@ -1,2 +1,0 @@
--- What the definitions of other crates cite. Assumes nothing.
-pub mod Models

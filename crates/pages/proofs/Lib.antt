@@ -1,2 +1,0 @@
--- The laws of rows. Assumes nothing.
-pub mod RowLaws

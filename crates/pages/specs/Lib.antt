@@ -1,3 +1,0 @@
--- The definition of the sheet. Assumes nothing.
-pub mod Rows
-pub mod Sheet

@@ -1,5 +1,0 @@
--- The promises. Assumes nothing.
-pub mod Calls
-pub mod Growing
-pub mod InstancesShown
-pub mod ClosedLists

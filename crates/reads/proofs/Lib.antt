@@ -1,2 +1,0 @@
--- The laws that the proofs share. Assumes nothing.
-pub mod Tables

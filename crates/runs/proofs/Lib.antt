@@ -1,3 +1,0 @@
--- The laws of runs. Assumes nothing.
-pub mod FilledLaws
-pub mod RunLaws

@@ -1,0 +1,86 @@
+-- The words of an accepted file's slim blocks are words of the file, so they are below 65,536.
+use mathlib.Core.Bool.{true}
+use mathlib.Core.List.{List, [], _∷_}
+use mathlib.Core.Path.{_≡_, refl, ap, subst, subst⁻¹}
+use Prim.Native.Nat.{ℕ, zero, suc, _+_, _*_, _<_}
+use native.Mathlib.Omega.{arith}
+use lib.Dec.{lit≤}
+use lib.ListN.{length, getD, take, drop}
+use Rattle.words.specs.Words.{high, wordsOf, longAt}
+use Rattle.words.proofs.WordLaws.{Below, below-drop, below-take, words-below}
+use Rattle.file_read.specs.Read.{recordAt, recordWord, blockAt, rawAt}
+use Rattle.file_rules.specs.Slim.{Slim, wordIn, subWordIn}
+use Rattle.file_tables.specs.Table.{kindOf}
+use Rattle.call_check.specs.declared.judge.State.{State}
+use Rattle.call_check.specs.declared.judge.Judged.the-variants.{Passed}
+use Rattle.call_check.specs.Judge.{surveyed}
+use Rattle.call_check.specs.Slims.{slimsIn, slimAt, places, startOf}
+use Rattle.call_check.proofs.Found.{Found, there, nowhere, isIn, found}
+use Rattle.file_read.proofs.Places.{block-at, none-at}
+use Rattle.call_check.proofs.FoundWords.{accepted-few}
+use Rattle.law_read.proofs.ReadLaws.{read-word, read-record, read-contents, read-counts}
+use Rattle.law_read.proofs.SpectrumLaws.{spectrum-word}
+
+take-again : (n : ℕ) (l : List ℕ) → take (length (take n l)) l ≡ take n l
+take-again zero l = refl
+take-again (suc n) [] = refl
+take-again (suc n) (x ∷ l) = ap (λ (r : List ℕ). x ∷ r) (take-again n l)
+
+-- raw words are a part of the file
+raw-part : (ws : List ℕ) (at : ℕ) → take (length (rawAt ws at)) (drop (at + length (blockAt ws at)) ws) ≡ rawAt ws at
+unfolding rawAt
+raw-part ws at = rw take-again
+
+raw-below : (ws : List ℕ) (at : ℕ) → Below 65536 ws → Below 65536 (rawAt ws at)
+raw-below ws at s =
+    let end = at + length (blockAt ws at) in
+    subst (Below 65536) (raw-part ws at) (below-take (length (rawAt ws at)) (drop end ws) (omega arith) (below-drop end ws s))
+
+record-below : (p : ℕ) (ws : List ℕ) → Below 65536 ws → Below 65536 (recordAt p ws)
+unfolding recordAt
+record-below zero ws s = s
+record-below (suc p) ws s = record-below p (drop (high (getD ws 0 0)) ws) (below-drop (high (getD ws 0 0)) ws s)
+
+module _ (file : List ℕ) (s : State) (e : surveyed file ≡ Passed s) (small : Below 256 file) where
+  -- the block at a place: a part of the file, or no words
+  block-small : (place : ℕ) → isIn place places ≡ true → Below 65536 (blockAt (wordsOf file) (startOf place (s .starts)))
+  block-small place i = go (found file s e place i)
+    where
+      ws : List ℕ
+      ws = wordsOf file
+
+      start : ℕ
+      start = startOf place (s .starts)
+
+      go : {x : Slim} → Found ws (s .setup) place start x → Below 65536 (blockAt ws start)
+      go (there t) =
+          let n = length (blockAt ws start) in
+          subst⁻¹ (Below 65536) (block-at ws start n (t .front)) (below-take n (drop start ws) (omega arith) (below-drop start ws (words-below file small)))
+      go (nowhere a n) = subst⁻¹ (Below 65536) (none-at ws start (omega (arith, accepted-few file s e))) (λ k. omega arith)
+
+  pub word-small : (id : ℕ) → isIn id (0x01 ∷ (0x02 ∷ (0x04 ∷ (0x0F ∷ [])))) ≡ true → isIn id places ≡ true → (k : ℕ) → 0 < k → k < kindOf id .least
+      → wordIn (slimAt id (slimsIn file)) k < 65536
+  word-small id i place k h l = rw (read-word file s e id i k h l) (block-small id place k)
+
+  pub record-small : (id : ℕ) → isIn id (0x05 ∷ (0x07 ∷ (0x09 ∷ []))) ≡ true → isIn id places ≡ true → (p o : ℕ) → p < 3 → 0 < o → o < kindOf id .subs .least
+      → subWordIn (slimAt id (slimsIn file)) p o < 65536
+  unfolding recordWord
+  record-small id i place p o h k l =
+      let b = blockAt (wordsOf file) (startOf id (s .starts)) in
+      rw (read-record file s e id i p o h k l) (record-below p (drop 2 b) (below-drop 2 b (block-small id place)) o)
+
+  -- the levels of the spectrum: those of its bands and its totals
+  pub level-small : (k : ℕ) → 0 < k → (let x = slimAt 0x0E (slimsIn file) in k < 5 + (wordIn x 3 + wordIn x 4)) → wordIn (slimAt 0x0E (slimsIn file)) k < 65536
+  unfolding isIn places startOf
+  level-small k h l =
+      let word = spectrum-word file s e in
+      rw (word k h (omega (arith, word 3 (lit≤ tt) (omega arith), word 4 (lit≤ tt) (omega arith)))) (block-small 0x0E refl k)
+
+  pub contents-small : Below 65536 (slimAt 0x0F (slimsIn file) .contents)
+  contents-small = subst⁻¹ (Below 65536) (read-contents file s e) (raw-below (wordsOf file) (s .starts .logger) (words-below file small))
+
+  -- a counter of a histogram
+  pub count-small : (place : ℕ) → isIn place (0x010B ∷ (0x020B ∷ (0x040B ∷ []))) ≡ true → isIn place places ≡ true → (k : ℕ)
+      → longAt (slimAt place (slimsIn file) .head) k < 65536 * 65536
+  unfolding longAt
+  count-small place i at k = rw (read-counts file s e place i) (omega (arith, block-small place at k, block-small place at (k + 1)))

@@ -1,5 +1,0 @@
--- The laws of the slim copy and of Slim's answer. Assumes nothing.
-pub mod Cuttable
-pub mod CopyLaws
-pub mod Turns
-pub mod ReplyLaws

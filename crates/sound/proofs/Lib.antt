@@ -1,4 +1,0 @@
--- What holds of any block and any row of the tables. Assumes nothing.
-pub mod SoundRows
-pub mod BlockPositions
-pub mod Positions

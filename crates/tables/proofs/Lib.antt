@@ -1,2 +1,0 @@
--- The laws of the tables. Assumes nothing.
-pub mod TableLaws

@@ -1,3 +1,0 @@
--- The laws of texts and of the title. Assumes nothing.
-pub mod Texts
-pub mod TitleLaws
