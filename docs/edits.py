@@ -35,7 +35,7 @@ def first_error(log):
 def plain(text):
     """Without the names of modules and the steps into a proof's context."""
     text = re.sub(r'(?:[A-Za-z][\w·]*\.)+(?=[^\s.]*[A-Za-z_∷≡+*/])', '', text)
-    text = re.sub(r'(?: \.before)+', ' ..', text)
+    text = re.sub(r'(?: ?\.before(?![\w-]))+', ' ..', text).replace('List.[]', '[]').replace('Nat.ℕ', 'ℕ')
     return re.sub(r'\s+', ' ', text)
 
 
@@ -49,9 +49,9 @@ def shorter(says):
     unproved = re.search(r'it is not proved that .*', says)
     if unproved:
         return unproved[0]
-    if says.startswith('expected type'):
-        return 'the two types are not the same (too long to be shown computed)'
-    return re.split(r'(?<=\(found\)) ', says)[0]
+    if says.startswith('expected type') or 'bytes of the two types are identical' in says:
+        return 'the two types are not the same (too long to be shown where)'
+    return re.split(r"(?<=\(found\)) |(?<=\(the expected type's\)) ", says)[0]
 
 
 def told(log):
@@ -61,7 +61,7 @@ def told(log):
     name = re.search(r'(?:error|\d): `([^`]*)`', line)
     says = line.split('error: ', 1)[-1]
     whole = ' '.join([says, *more])
-    computed = re.search(r'computed as far as (?:they go|it goes), (.*?)(?: expected type| but this has|$)', whole)
+    computed = re.search(r'computed as far as (?:they go|it goes), (.*?)(?: expected type `| but this has|$)', whole)
     says = shorter(plain(computed[1] if computed else re.sub(r'^`[^`]*`: ', '', whole)))
     if len(says) > MOST:
         says = says[:MOST].rsplit(' ', 1)[0] + ' ..'
