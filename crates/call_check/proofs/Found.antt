@@ -22,11 +22,11 @@ use Rattle.file_rules.specs.Block.{kept}
 use Rattle.file_rules.specs.Slim.{Slim, wordIn}
 use Rattle.words.proofs.Choice.{cond-second}
 use Rattle.file_rules.proofs.Reading.{exact-word, slim-id}
-use Rattle.file_tables.specs.declared.setup.Setup.{Setup}
+use Rattle.file_order.specs.declared.setup.Setup.{Setup}
 use Rattle.file_tables.specs.Table.{rowOf, kindOf}
-use Rattle.file_tables.specs.Setup.{noSetup, rowFor, slimOf}
-use Rattle.file_tables.proofs.TableLaws.{row-exact}
-use Rattle.file_tables.specs.Order.{keyOf}
+use Rattle.file_order.specs.Setup.{noSetup, rowFor, slimOf}
+use Rattle.file_order.proofs.KnownLaws.{row-exact}
+use Rattle.file_order.specs.Order.{keyOf}
 use Rattle.call_check.specs.declared.judge.Starts.{Starts}
 use Rattle.call_check.specs.declared.judge.State.{State}
 use Rattle.call_check.specs.declared.judge.Judged.the-variants.{Passed}

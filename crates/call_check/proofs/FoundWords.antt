@@ -15,11 +15,12 @@ use Rattle.file_read.proofs.Places.{none-at}
 use Rattle.file_rules.specs.Slim.{Slim, slimBy, headBy, wordIn, subWordIn}
 use Rattle.words.proofs.Choice.{cond-second, or-neither}
 use Rattle.file_rules.proofs.Reading.{plain-word, record-word}
-use Rattle.file_tables.specs.declared.setup.Setup.{Setup}
+use Rattle.file_order.specs.declared.setup.Setup.{Setup}
 use Rattle.file_tables.specs.Table.{rowOf, kindOf}
-use Rattle.file_tables.specs.Setup.{rowFor, slimOf}
-use Rattle.file_tables.proofs.TableLaws.{row-exact, Plain, Three}
-use Rattle.file_tables.specs.Order.{keyOf}
+use Rattle.file_order.specs.Setup.{rowFor, slimOf}
+use Rattle.file_order.proofs.KnownLaws.{row-exact}
+use Rattle.file_tables.proofs.TableLaws.{Plain, Three}
+use Rattle.file_order.specs.Order.{keyOf}
 use Rattle.call_check.specs.declared.judge.State.{State}
 use Rattle.call_check.specs.declared.judge.Judged.the-variants.{Passed}
 use Rattle.call_check.specs.Judge.{placeOf, misfit, surveyed}

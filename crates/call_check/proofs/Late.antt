@@ -11,11 +11,11 @@ use borrow.Author.Tests.{eqb-true, ne-eqb, leb-true, ltb-true}
 use Rattle.words.specs.Words.{low}
 use Rattle.words.proofs.Choice.{and-both}
 use Rattle.file_walk.specs.Walk.{endMarker, Walk, over, block}
-use Rattle.file_tables.specs.declared.setup.Setup.{Setup}
-use Rattle.file_tables.specs.declared.order.Due.{Due}
-use Rattle.file_tables.specs.Setup.{slimOf, learnt}
-use Rattle.file_tables.specs.Order.{keyOf, either, isDue, passedOver, dueAfter, dueAfterResults}
-use Rattle.file_tables.proofs.TableLaws.{id-in}
+use Rattle.file_order.specs.declared.setup.Setup.{Setup}
+use Rattle.file_order.specs.declared.order.Due.{Due}
+use Rattle.file_order.specs.Setup.{slimOf, learnt}
+use Rattle.file_order.specs.Order.{keyOf, either, isDue, passedOver, dueAfter, dueAfterResults}
+use Rattle.file_order.proofs.KnownLaws.{id-in}
 use Rattle.call_check.specs.declared.judge.State.{State}
 use Rattle.call_check.specs.declared.judge.Judged.{Judged}
 use Rattle.call_check.specs.declared.judge.Judged.the-variants.{Passed, Denied}

@@ -17,9 +17,9 @@ use Rattle.file_walk.specs.declared.Step.the-variants.{Block, Over}
 use Rattle.file_walk.specs.Walk.{cut, frontOf, rawOf, stepAt, Walk, over, block, walk, Part, partsOf}
 use Rattle.file_walk.proofs.Steps.{walkFrom, walk-start, walk-over, walk-block, step-block}
 use Rattle.file_rules.specs.Slim.{Slim}
-use Rattle.file_tables.specs.declared.setup.Setup.{Setup}
-use Rattle.file_tables.specs.Setup.{noSetup}
-use Rattle.file_tables.proofs.TableLaws.{learnt-raw}
+use Rattle.file_order.specs.declared.setup.Setup.{Setup}
+use Rattle.file_order.specs.Setup.{noSetup}
+use Rattle.file_order.proofs.KnownLaws.{learnt-raw}
 use Rattle.call_check.specs.declared.judge.State.{State}
 use Rattle.call_check.specs.declared.judge.Judged.{Judged}
 use Rattle.call_check.specs.declared.judge.Judged.the-variants.{Passed, Denied}

@@ -16,9 +16,9 @@ use Rattle.file_rules.specs.Block.{kept, offsetBy}
 use Rattle.words.proofs.Choice.{cond-first}
 use Rattle.file_rules.proofs.BlockLaws.{no-bad, offset-good}
 use Rattle.file_tables.specs.Table.{kindOf}
-use Rattle.file_tables.specs.Setup.{rowFor}
-use Rattle.file_tables.specs.Order.{keyOf, isDue}
-use Rattle.file_tables.proofs.TableLaws.{row-listed}
+use Rattle.file_order.specs.Setup.{rowFor}
+use Rattle.file_order.specs.Order.{keyOf, isDue}
+use Rattle.file_order.proofs.KnownLaws.{row-listed}
 use Rattle.call_check.specs.declared.judge.State.{State}
 use Rattle.call_check.specs.declared.judge.Judged.the-variants.{Passed, Denied}
 use Rattle.call_check.specs.Judge.{skipped, enteredBy, testedBy, judgedBy, seenBy, seenIn, closed}

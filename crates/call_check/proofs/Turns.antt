@@ -19,8 +19,8 @@ use Rattle.file_rules.specs.Block.{kept, offsetBy}
 use Rattle.call_check.specs.declared.judge.State.{State}
 use Rattle.call_check.specs.declared.judge.Judged.{Judged}
 use Rattle.call_check.specs.declared.judge.Judged.the-variants.{Passed, Denied}
-use Rattle.file_tables.specs.Setup.{rowFor}
-use Rattle.file_tables.specs.Order.{keyOf, isDue}
+use Rattle.file_order.specs.Setup.{rowFor}
+use Rattle.file_order.specs.Order.{keyOf, isDue}
 use Rattle.call_check.specs.Judge.{firstState, skipped, enteredBy, testedBy, judgedBy, seenBy, seenIn, judgedStep, judge, Near}
 
 -- ---- a block, by what its row, the order and its tests say

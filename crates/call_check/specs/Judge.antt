@@ -14,14 +14,14 @@ use Rattle.file_rules.specs.declared.Row.{Row}
 use Rattle.file_rules.specs.declared.Tested.{Tested}
 use Rattle.file_rules.specs.declared.Tested.the-variants.{Good, Bad}
 use Rattle.file_rules.specs.Block.{kept, offsetBy}
-use Rattle.file_tables.specs.declared.setup.Setup.{Setup}
-use Rattle.file_tables.specs.declared.order.Due.{Due}
+use Rattle.file_order.specs.declared.setup.Setup.{Setup}
+use Rattle.file_order.specs.declared.order.Due.{Due}
 use Rattle.call_check.specs.declared.judge.Starts.{Starts}
 use Rattle.call_check.specs.declared.judge.State.{State}
 use Rattle.call_check.specs.declared.judge.Judged.{Judged}
 use Rattle.call_check.specs.declared.judge.Judged.the-variants.{Passed, Denied}
-use Rattle.file_tables.specs.Setup.{noSetup, slimOf, learnt, rowFor}
-use Rattle.file_tables.specs.Order.{keyOf, only, isDue, passedOver, dueAfter}
+use Rattle.file_order.specs.Setup.{noSetup, slimOf, learnt, rowFor}
+use Rattle.file_order.specs.Order.{keyOf, only, isDue, passedOver, dueAfter}
 
 -- "65,535 stands for an absent block"
 abbrev pub absent : ℕ

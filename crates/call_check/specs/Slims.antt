@@ -8,10 +8,10 @@ use Rattle.words.specs.Words.{low, wordsOf}
 use Rattle.file_walk.specs.Walk.{broken, ended, cut, frontOf, rawOf, Part, partsOf, walked}
 use Rattle.file_rules.specs.Slim.{Slim, wordIn}
 use Rattle.call_check.specs.declared.judge.Starts.{Starts}
-use Rattle.file_tables.specs.declared.setup.Setup.{Setup}
+use Rattle.file_order.specs.declared.setup.Setup.{Setup}
 use Rattle.file_tables.specs.Table.{kindOf}
-use Rattle.file_tables.specs.Setup.{noSetup, slimOf, learnt}
-use Rattle.file_tables.specs.Order.{keyOf}
+use Rattle.file_order.specs.Setup.{noSetup, slimOf, learnt}
+use Rattle.file_order.specs.Order.{keyOf}
 use Rattle.call_check.specs.Judge.{absent, placeOf}
 
 -- a listed block in its slim form, by what is known before it; a block that is not listed leaves none

@@ -1,9 +1,9 @@
 // The walk over a file, judged block by block.
+use file_order::order::Due;
+use file_order::order::key_of;
+use file_order::setup::Setup;
 use file_rules::Tested;
 use file_rules::keeps;
-use file_tables::order::Due;
-use file_tables::order::key_of;
-use file_tables::setup::Setup;
 use file_walk::Cursor;
 use file_walk::Step;
 use file_walk::Stop;

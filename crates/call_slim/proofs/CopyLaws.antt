@@ -16,10 +16,10 @@ use Rattle.file_walk.specs.Walk.{stepAt, partsOf, Part, rawOf, endMarker}
 use Rattle.file_walk.proofs.Steps.{walkFrom, walk-over, step-block, end-bounds}
 use Rattle.file_rules.specs.declared.Row.{Row}
 use Rattle.file_rules.specs.Slim.{Slim, slimBy, wordsIn}
-use Rattle.file_tables.specs.declared.setup.Setup.{Setup}
+use Rattle.file_order.specs.declared.setup.Setup.{Setup}
 use Rattle.file_tables.specs.Table.{rowOf, kindOf}
-use Rattle.file_tables.specs.Setup.{rowFor, slimOf, learnt}
-use Rattle.file_tables.proofs.TableLaws.{row-listed, learnt-none, learnt-raw}
+use Rattle.file_order.specs.Setup.{rowFor, slimOf, learnt}
+use Rattle.file_order.proofs.KnownLaws.{row-listed, learnt-none, learnt-raw}
 use Rattle.file_slim.specs.Cut.{Cuts}
 use Rattle.file_slim.proofs.CutLaws.{slim-raw, slim-short}
 use Rattle.call_check.specs.Slims.{slimPart, knownFrom, slims, slimsIn}

@@ -19,10 +19,11 @@ use Rattle.file_rules.specs.declared.Row.{Row}
 use Rattle.file_rules.specs.declared.More.the-variants.{Nothing}
 use Rattle.file_rules.specs.Block.{moreOf, leastOf, readable}
 use Rattle.file_rules.proofs.BlockLaws.{Kept, kept-says, kept-full, kept-short}
-use Rattle.file_tables.specs.declared.setup.Setup.{Setup}
+use Rattle.file_order.specs.declared.setup.Setup.{Setup}
 use Rattle.file_tables.specs.Table.{row0B, rowOf, kindOf}
-use Rattle.file_tables.specs.Setup.{rowFor}
-use Rattle.file_tables.proofs.TableLaws.{each-row, each-row-for, row-listed, row-exact}
+use Rattle.file_order.specs.Setup.{rowFor}
+use Rattle.file_order.proofs.KnownLaws.{each-row-for, row-listed, row-exact}
+use Rattle.file_tables.proofs.TableLaws.{each-row}
 use Rattle.file_slim.specs.Cut.{Sound, Cuts}
 use Rattle.call_check.specs.declared.judge.State.{State}
 use Rattle.call_check.proofs.Seen.{Through, unlisted, listed}

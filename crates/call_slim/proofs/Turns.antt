@@ -16,7 +16,7 @@ use borrow.Rule.Slice.PartMut.{midOf, putMid}
 use Rattle.file_slim.specs.Cut.{WroteWords, HasRoom}
 use Rattle.file_slim.proofs.WordWriting as WordWriting
 use Rattle.file_slim.proofs.WordWriting.{Begun, room, finished}
-use Rattle.file_tables.specs.declared.setup.Setup.{Setup}
+use Rattle.file_order.specs.declared.setup.Setup.{Setup}
 use Rattle.call_check.specs.Slims.{knownFrom}
 use Rattle.file_read.specs.Read.{partAt}
 use Rattle.call_check.proofs.FoundWords.{accepted-few}

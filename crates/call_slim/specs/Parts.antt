@@ -6,8 +6,8 @@ use Prim.Native.Nat.{ℕ, _+_, _≤_}
 use lib.ListN.{length, getD, take, drop}
 use Rattle.file_walk.specs.Walk.{Part, rawOf}
 use Rattle.file_rules.specs.Slim.{Slim, wordsIn}
-use Rattle.file_tables.specs.declared.setup.Setup.{Setup}
-use Rattle.file_tables.specs.Setup.{rowFor}
+use Rattle.file_order.specs.declared.setup.Setup.{Setup}
+use Rattle.file_order.specs.Setup.{rowFor}
 use Rattle.file_slim.specs.Cut.{Cuts}
 use Rattle.call_check.specs.declared.judge.State.{State}
 use Rattle.call_check.specs.declared.judge.Judged.the-variants.{Passed}

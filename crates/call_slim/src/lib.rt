@@ -1,12 +1,12 @@
 // Slim: the slim copy of a file, written into a lent output.
 use call_check::judge::Judged;
 use call_check::judge::survey;
+use file_order::setup::Setup;
 use file_rules::Row;
 use file_slim::put_slim;
 use file_slim::put_word;
 use file_slim::put_words;
 use file_slim::slim_words;
-use file_tables::setup::Setup;
 use file_walk::Cursor;
 use file_walk::Step;
 use file_walk::raw_words;
@@ -16,7 +16,7 @@ use words::word;
 ghost use mathlib.Core.Path.{_≡_};
 ghost use lib.ListN.{length, getD};
 ghost use Rattle.words.specs.Words.{wordsOf};
-ghost use Rattle.file_tables.specs.Setup.{rowFor};
+ghost use Rattle.file_order.specs.Setup.{rowFor};
 ghost use Rattle.file_slim.specs.Cut.{WroteWords, HasRoom};
 ghost use Rattle.call_check.specs.Slims.{slimsIn, knownFrom};
 ghost use Rattle.file_read.specs.Read.{partAt};

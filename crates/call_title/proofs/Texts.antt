@@ -12,10 +12,10 @@ use Rattle.text.specs.Text.{beforeNull}
 use Rattle.file_rules.specs.Block.{nulled, readable}
 use Rattle.file_rules.specs.Slim.{Slim, textOf, cutText, headBy, slimBy}
 use Rattle.file_rules.proofs.BlockLaws.{kept-says}
-use Rattle.file_tables.specs.declared.setup.Setup.{Setup}
+use Rattle.file_order.specs.declared.setup.Setup.{Setup}
 use Rattle.file_tables.specs.Table.{kindOf}
-use Rattle.file_tables.specs.Setup.{rowFor, slimOf}
-use Rattle.file_tables.proofs.TableLaws.{row-exact, row-text}
+use Rattle.file_order.specs.Setup.{rowFor, slimOf}
+use Rattle.file_order.proofs.KnownLaws.{row-exact, row-text}
 use Rattle.file_read.specs.Read.{blockAt}
 use Rattle.call_check.proofs.Found.{Found, there, nowhere, found}
 use Rattle.file_read.proofs.Places.{block-at}

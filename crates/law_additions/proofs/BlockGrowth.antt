@@ -9,11 +9,11 @@ use Rattle.file_rules.specs.declared.Tested.the-variants.{Good}
 use Rattle.file_rules.specs.Block.{nulled, readable, kept}
 use Rattle.file_rules.specs.Slim.{counted}
 use Rattle.file_rules.proofs.BlockLaws.{kept-says}
-use Rattle.file_tables.specs.declared.setup.Setup.{Setup}
+use Rattle.file_order.specs.declared.setup.Setup.{Setup}
 use Rattle.file_tables.specs.Table.{kindOf}
-use Rattle.file_tables.specs.Setup.{rowFor, slimOf}
-use Rattle.file_tables.specs.Order.{keyOf}
-use Rattle.file_tables.proofs.TableLaws.{row-exact, row-text}
+use Rattle.file_order.specs.Setup.{rowFor, slimOf}
+use Rattle.file_order.specs.Order.{keyOf}
+use Rattle.file_order.proofs.KnownLaws.{row-exact, row-text}
 use Rattle.law_additions.specs.Additions.{recounted, Grown, as-is, table, title}
 use Rattle.law_additions.proofs.RecordGrowth.{counted-low}
 use Rattle.law_additions.proofs.FirstWord.{same-row, same-key}

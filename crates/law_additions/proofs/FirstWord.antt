@@ -8,10 +8,10 @@ use lib.ListN.{length}
 use borrow.Author.Tests.{ne-eqb, le-ltb}
 use Rattle.words.specs.Words.{low, high}
 use Rattle.file_walk.specs.Walk.{cut, endMarker, longForm, fronted, frontOf}
-use Rattle.file_tables.specs.declared.setup.Setup.{Setup}
+use Rattle.file_order.specs.declared.setup.Setup.{Setup}
 use Rattle.file_tables.specs.Table.{rowOf, kindOf}
-use Rattle.file_tables.specs.Setup.{rowFor}
-use Rattle.file_tables.specs.Order.{keyOf}
+use Rattle.file_order.specs.Setup.{rowFor}
+use Rattle.file_order.specs.Order.{keyOf}
 
 -- a block of a listed id, but no histogram, is held to its row by its id alone
 module _ (h h′ : ℕ) (same : low h′ ≡ low h) (x : kindOf (low h) .exact ≡ false) where

@@ -3,9 +3,9 @@ use mathlib.Core.Bool.{Bool, true, false, cond}
 use mathlib.Core.Path.{_≡_, refl}
 use Prim.Native.Nat.{ℕ}
 use lib.Dec.{eqb}
-use Rattle.file_tables.specs.declared.setup.Setup.{Setup}
-use Rattle.file_tables.specs.declared.order.Due.{Due}
-use Rattle.file_tables.specs.Order.{either, dueAfter, dueAfterProfiles, dueAfterResults}
+use Rattle.file_order.specs.declared.setup.Setup.{Setup}
+use Rattle.file_order.specs.declared.order.Due.{Due}
+use Rattle.file_order.specs.Order.{either, dueAfter, dueAfterProfiles, dueAfterResults}
 
 pub record Later (d : Due) : Type 0 where
   pub no-header : eqb (d .one) 0x01 ≡ false

@@ -7,11 +7,11 @@ use Rattle.words.specs.Words.{low, wordsOf}
 use Rattle.words.proofs.Choice.{and-both}
 use Rattle.file_walk.specs.Walk.{Part, Whole, Wholes}
 use Rattle.file_rules.specs.Block.{kept}
-use Rattle.file_tables.specs.declared.setup.Setup.{Setup}
-use Rattle.file_tables.specs.declared.order.Due.{Due}
+use Rattle.file_order.specs.declared.setup.Setup.{Setup}
+use Rattle.file_order.specs.declared.order.Due.{Due}
 use Rattle.file_tables.specs.Table.{rowOf, kindOf}
-use Rattle.file_tables.specs.Setup.{rowFor, noSetup}
-use Rattle.file_tables.specs.Order.{keyOf, isDue, only, passedOver}
+use Rattle.file_order.specs.Setup.{rowFor, noSetup}
+use Rattle.file_order.specs.Order.{keyOf, isDue, only, passedOver}
 use Rattle.call_check.specs.Slims.{slimPart, knownFrom, slims, slimsIn}
 use Rattle.law_grammar.specs.Grammar.{knownAfter, Grammatical, Accepts, Ordered, ordered}
 use Rattle.law_grammar.proofs.Takes.{wordOf, good, takes, good-is, key-listed}

@@ -10,16 +10,18 @@ use Rattle.file_walk.specs.Walk.{longForm, fronted, frontOf, rawOf, walk, walke
 use Rattle.file_rules.specs.Block.{inForce, moreOf, leastOf, filled, then, offsetBy, allows, obeyed, ruled, rulesIn, recorded, records, sized, nulled, readable, wholeRecords, buffered, kept}
 use Rattle.file_rules.specs.Slim.{counted, cutTo, textOf, cutText, slimRecords, headBy, slimBy, wordsIn, wordIn, subWordIn}
 use Rattle.file_tables.specs.Table.{rowOf}
-use Rattle.file_tables.specs.Setup.{slimOf, bandsOf, levelsOf, idIn, learnt, rowFor}
-use Rattle.file_tables.specs.Order.{keyOf, isDue, passedOver, dueAfter, dueAfterProfiles}
+use Rattle.file_order.specs.Setup.{slimOf, bandsOf, levelsOf, idIn, learnt, rowFor}
+use Rattle.file_order.specs.Order.{keyOf, isDue, passedOver, dueAfter, dueAfterProfiles}
 use Rattle.call_check.specs.Judge.{placeOf, noted, skipped, entered, enteredBy, testedBy, judgedBy, seenBy, seenIn, closed, judge, misfit, surveyed}
 use Rattle.call_check.specs.Check.{outlineOf, answered, verdict, values}
 use Rattle.call_check.specs.Slims.{slimPart, knownFrom, slims, slimsIn, slimFrom, slimAt, learntFrom, setupIn}
 use Rattle.call_title.specs.Title.{titleText, textAt, titleIn, titleAt}
 use Rattle.call_slim.specs.Copy.{slimWords, slimCopy, roomFor, replied, slimReply, outputBy}
-use Rattle.sheet_lines.specs.Line.{further, separated, bytes}
-use Rattle.sheet_names.specs.Names.{profileFilters, bufferCodes, profileName, unitOf}
-use Rattle.sheet_lines.specs.Lines.{levelField, numberEntry, textEntry, bufferColumn, bandColumns, bufferHeading, recordRow, timeRow}
+use Rattle.sheet_fields.specs.Fields.{further, levelField, bufferColumn, bandColumns}
+use Rattle.sheet_lines.specs.Line.{separated, bytes}
+use Rattle.sheet_results.specs.Results.{unitOf}
+use Rattle.sheet_names.specs.Names.{profileFilters, bufferCodes, profileName}
+use Rattle.sheet_lines.specs.Lines.{numberEntry, textEntry, bufferHeading, recordRow, timeRow}
 use Rattle.words.specs.Numbers.{numbersFrom}
 use Rattle.sheet_page.specs.Rows.{timeRows, recordCount, recordRows, texts}
 use Rattle.sheet_page.specs.Sheet.{whereThere, threeIn, filtersIn, codesIn, modelIn, functionIn, levelsIn, nameIn, titleShown, headLines, timeIn, resultLines, spectrumLines, statisticsLines, stepIn, widthIn, bufferLines, sheetLines, sheetTexts}

@@ -10,10 +10,12 @@ use Rattle.units.specs.Level.{signed, level, bound, fixed, signedFixed, tenths}
 use Rattle.units.specs.Frequency.{fraction, centihertz, octaves, thirds, bandPlace}
 use Rattle.sheet_page.specs.Sheet.{whereThere, threeIn, filtersIn, codesIn, nameIn, titleShown, headLines, timeIn, resultRowIn, modelIn, functionIn, nominalIn, spectrumFilterIn, levelsIn, resultLines, spectrumLines, histogramIn, statisticsLines, stepIn, widthIn, bufferLines, sheetLines, sheetTexts}
 use Rattle.sheet_page.specs.Rows.{timeRows, resultRows, bandRows, totalRows, levelRows, classRows, recordCount, recordRows, texts}
-use Rattle.sheet_lines.specs.Line.{further, separated, bytes}
-use Rattle.sheet_lines.specs.Lines.{levelField, bandName, totalName, numberEntry, textEntry, resultHeading, timeRow, spanRow, lettered, resultRow, bandHeading, bandRow, totalRow, classHeading, classRow, bufferColumn, bandColumns, bufferHeading, recordRow}
+use Rattle.sheet_fields.specs.Fields.{further, levelField, bandName, totalName, lettered, bufferColumn, bandColumns}
+use Rattle.sheet_lines.specs.Line.{separated, bytes}
+use Rattle.sheet_lines.specs.Lines.{numberEntry, textEntry, resultHeading, timeRow, spanRow, resultRow, bandHeading, bandRow, totalRow, classHeading, classRow, bufferHeading, recordRow}
 use Rattle.words.specs.Numbers.{numbersFrom}
-use Rattle.sheet_names.specs.Names.{profileFilters, bufferCodes, spectrumFilters, nameOf, unitOf, results945, results953, dose953, results, profileName, filterColumn}
+use Rattle.sheet_results.specs.Results.{nameOf, unitOf, results945, results953, dose953, results}
+use Rattle.sheet_names.specs.Names.{profileFilters, bufferCodes, spectrumFilters, profileName, filterColumn}
 use Rattle.text.specs.Text.{named, beforeNull}
 use Rattle.words.specs.Words.{wordsOf, bytesOf, longAt}
 use Rattle.paging.specs.Fit.{fit, joined}
@@ -21,8 +23,8 @@ use Rattle.file_walk.specs.Walk.{longForm, fronted, frontOf, rawOf, walk, walke
 use Rattle.file_rules.specs.Block.{inForce, moreOf, leastOf, filled, then, offsetBy, allows, obeyed, ruled, rulesIn, recorded, records, sized, nulled, readable, wholeRecords, buffered, kept}
 use Rattle.file_rules.specs.Slim.{counted, cutTo, textOf, cutText, slimRecords, headBy, slimBy, wordsIn, wordIn, subWordIn}
 use Rattle.file_tables.specs.Table.{rowOf}
-use Rattle.file_tables.specs.Setup.{slimOf, bandsOf, levelsOf, idIn, learnt, classesOf, rowFor}
-use Rattle.file_tables.specs.Order.{keyOf, isDue, passedOver, dueAfter, dueAfterProfiles, dueAfterResults}
+use Rattle.file_order.specs.Setup.{slimOf, bandsOf, levelsOf, idIn, learnt, classesOf, rowFor}
+use Rattle.file_order.specs.Order.{keyOf, isDue, passedOver, dueAfter, dueAfterProfiles, dueAfterResults}
 use Rattle.call_check.specs.Judge.{placeOf, noted, skipped, entered, enteredBy, testedBy, judgedBy, seenBy, seenIn, closed, judge, misfit, surveyed}
 use Rattle.call_check.specs.Check.{outlineOf, answered, verdict, values}
 use Rattle.call_check.specs.Slims.{slimPart, knownFrom, slims, slimsIn, slimFrom, slimAt, learntFrom, setupIn}

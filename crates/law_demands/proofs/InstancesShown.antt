@@ -14,8 +14,8 @@ use Rattle.file_walk.specs.Walk.{longForm, fronted, frontOf, rawOf, walk, walke
 use Rattle.file_rules.specs.Block.{inForce, moreOf, leastOf, filled, then, offsetBy, allows, obeyed, ruled, rulesIn, recorded, records, sized, nulled, readable, wholeRecords, buffered, kept}
 use Rattle.file_rules.specs.Slim.{counted, cutTo, textOf, cutText, slimRecords, headBy, slimBy, wordIn, subWordIn}
 use Rattle.file_tables.specs.Table.{rowOf}
-use Rattle.file_tables.specs.Setup.{slimOf, bandsOf, levelsOf, idIn, learnt, classesOf, rowFor}
-use Rattle.file_tables.specs.Order.{keyOf, isDue, passedOver, dueAfter, dueAfterProfiles, dueAfterResults}
+use Rattle.file_order.specs.Setup.{slimOf, bandsOf, levelsOf, idIn, learnt, classesOf, rowFor}
+use Rattle.file_order.specs.Order.{keyOf, isDue, passedOver, dueAfter, dueAfterProfiles, dueAfterResults}
 use Rattle.law_additions.specs.Additions.{mayGrow, isText, recounted, rest, Grown, title, Additions, partsIn}
 use Rattle.call_check.specs.Judge.{placeOf, noted, skipped, entered, enteredBy, testedBy, judgedBy, seenBy, seenIn, closed, judge, misfit, surveyed}
 use Rattle.law_grammar.proofs.Takes.{accepts}

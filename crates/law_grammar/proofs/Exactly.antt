@@ -11,8 +11,8 @@ use Rattle.words.specs.Words.{wordsOf}
 use Rattle.file_walk.specs.Walk.{Part, partsOf, laidOut, walked, Wholes}
 use Rattle.file_walk.proofs.Segments.{closes, walk-laid-out, laid-out-walk}
 use Rattle.words.proofs.Choice.{and-both, or-neither}
-use Rattle.file_tables.specs.Setup.{noSetup}
-use Rattle.file_tables.specs.Order.{only}
+use Rattle.file_order.specs.Setup.{noSetup}
+use Rattle.file_order.specs.Order.{only}
 use Rattle.call_check.specs.declared.check.Answer.the-variants.{Accepted}
 use Rattle.call_check.specs.declared.judge.Judged.{Judged}
 use Rattle.call_check.specs.declared.judge.Judged.the-variants.{Passed, Denied}

@@ -9,11 +9,11 @@ use lib.Dec.{eqb}
 use borrow.Author.Tests.{eqb-true}
 use Rattle.words.specs.Words.{low}
 use Rattle.file_walk.specs.Walk.{endMarker, Part}
-use Rattle.file_tables.specs.declared.setup.Setup.{Setup}
-use Rattle.file_tables.specs.declared.order.Due.{Due}
+use Rattle.file_order.specs.declared.setup.Setup.{Setup}
+use Rattle.file_order.specs.declared.order.Due.{Due}
 use Rattle.file_tables.specs.Table.{rowOf, kindOf}
-use Rattle.file_tables.specs.Setup.{noSetup}
-use Rattle.file_tables.specs.Order.{either, only, isDue, passedOver, dueAfter, dueAfterProfiles, dueAfterResults}
+use Rattle.file_order.specs.Setup.{noSetup}
+use Rattle.file_order.specs.Order.{either, only, isDue, passedOver, dueAfter, dueAfterProfiles, dueAfterResults}
 use Rattle.law_grammar.specs.Grammar.{Blocks, knownAfter, End, end, pass, Then, here, Either, Spectrum, Statistics, Measurement, Buffer, Contents, Ordered, ordered}
 use Rattle.law_grammar.proofs.Takes.{wordOf, takes, takes-either, key-listed, taken, listed-takes, takes-passed}
 

@@ -17,12 +17,12 @@ use Rattle.file_rules.specs.declared.Tested.the-variants.{Good, Bad}
 use Rattle.file_rules.specs.Block.{kept, offsetBy}
 use Rattle.file_rules.specs.Slim.{slimBy, wordIn, subWordIn}
 use Rattle.words.proofs.Choice.{and-both}
-use Rattle.file_tables.specs.declared.setup.Setup.{Setup}
-use Rattle.file_tables.specs.declared.order.Due.{Due}
+use Rattle.file_order.specs.declared.setup.Setup.{Setup}
+use Rattle.file_order.specs.declared.order.Due.{Due}
 use Rattle.file_tables.specs.Table.{kindOf}
-use Rattle.file_tables.specs.Setup.{rowFor, slimOf, learnt, idIn}
-use Rattle.file_tables.specs.Order.{keyOf, either, only, isDue, passedOver, dueAfter}
-use Rattle.file_tables.proofs.TableLaws.{row-listed}
+use Rattle.file_order.specs.Setup.{rowFor, slimOf, learnt, idIn}
+use Rattle.file_order.specs.Order.{keyOf, either, only, isDue, passedOver, dueAfter}
+use Rattle.file_order.proofs.KnownLaws.{row-listed}
 use Rattle.call_check.specs.declared.judge.State.{State}
 use Rattle.call_check.specs.declared.judge.Judged.{Judged}
 use Rattle.call_check.specs.declared.judge.Judged.the-variants.{Passed, Denied}

@@ -12,10 +12,10 @@ use Rattle.file_models.specs.Models.{columns}
 use Rattle.file_walk.specs.Walk.{Part, laidOut, Wholes}
 use Rattle.file_rules.specs.declared.Tested.the-variants.{Good}
 use Rattle.file_rules.specs.Block.{kept}
-use Rattle.file_tables.specs.declared.setup.Setup.{Setup}
+use Rattle.file_order.specs.declared.setup.Setup.{Setup}
 use Rattle.file_tables.specs.Table.{kindOf}
-use Rattle.file_tables.specs.Setup.{rowFor, slimOf, learnt, noSetup}
-use Rattle.file_tables.specs.Order.{keyOf}
+use Rattle.file_order.specs.Setup.{rowFor, slimOf, learnt, noSetup}
+use Rattle.file_order.specs.Order.{keyOf}
 use Rattle.call_check.specs.Check.{verdict}
 use Rattle.call_check.specs.declared.check.Outline.{Outline}
 use Rattle.call_check.specs.declared.check.Answer.the-variants.{Accepted}

@@ -18,10 +18,10 @@ use Rattle.file_walk.proofs.Steps.{walkFrom, walk-start, walk-over}
 use Rattle.file_rules.specs.declared.Tested.the-variants.{Good}
 use Rattle.file_rules.specs.Block.{kept}
 use Rattle.file_rules.specs.Slim.{Slim}
-use Rattle.file_tables.specs.declared.setup.Setup.{Setup}
+use Rattle.file_order.specs.declared.setup.Setup.{Setup}
 use Rattle.file_tables.specs.Table.{kindOf}
-use Rattle.file_tables.specs.Setup.{rowFor, slimOf}
-use Rattle.file_tables.specs.Order.{keyOf, isDue}
+use Rattle.file_order.specs.Setup.{rowFor, slimOf}
+use Rattle.file_order.specs.Order.{keyOf, isDue}
 use Rattle.call_check.specs.declared.judge.State.{State}
 use Rattle.call_check.specs.declared.judge.Judged.the-variants.{Passed}
 use Rattle.call_check.specs.Judge.{firstState, skipped, enteredBy, closed, judge, misfit, surveyed}

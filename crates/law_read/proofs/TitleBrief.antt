@@ -17,10 +17,10 @@ use Rattle.file_walk.proofs.Fronts.{front-cuts}
 use Rattle.file_rules.specs.Block.{nulled, readable}
 use Rattle.file_rules.specs.Slim.{Slim, cutText, headBy, slimBy}
 use Rattle.file_rules.proofs.BlockLaws.{kept-says, kept-short}
-use Rattle.file_tables.specs.declared.setup.Setup.{Setup}
+use Rattle.file_order.specs.declared.setup.Setup.{Setup}
 use Rattle.file_tables.specs.Table.{rowOf, kindOf}
-use Rattle.file_tables.specs.Setup.{slimOf}
-use Rattle.file_tables.proofs.TableLaws.{row-exact, row-text, row-at}
+use Rattle.file_order.specs.Setup.{slimOf}
+use Rattle.file_order.proofs.KnownLaws.{row-exact, row-text, row-at}
 use Rattle.call_check.specs.declared.judge.State.{State}
 use Rattle.call_check.specs.declared.judge.Judged.the-variants.{Passed}
 use Rattle.call_check.specs.Judge.{surveyed}

@@ -17,8 +17,8 @@ use Rattle.file_walk.proofs.Steps.{walk-broken, walk-ended, walk-cut}
 use Rattle.file_rules.specs.declared.Row.{Row}
 use Rattle.file_rules.specs.declared.Tested.{Tested}
 use Rattle.file_rules.specs.Block.{offsetBy}
-use Rattle.file_tables.specs.Setup.{rowFor}
-use Rattle.file_tables.specs.Order.{keyOf, isDue}
+use Rattle.file_order.specs.Setup.{rowFor}
+use Rattle.file_order.specs.Order.{keyOf, isDue}
 use Rattle.call_check.specs.declared.judge.State.{State}
 use Rattle.call_check.specs.declared.judge.Judged.{Judged}
 use Rattle.call_check.specs.declared.judge.Judged.the-variants.{Passed, Denied}

@@ -15,10 +15,11 @@ use Rattle.file_rules.specs.declared.More.the-variants.{Nothing, Where, Counts}
 use Rattle.file_rules.specs.declared.Rule.{Rule}
 use Rattle.file_rules.specs.declared.Row.{Row}
 use Rattle.file_rules.specs.Block.{moreOf, rulesIn}
-use Rattle.file_tables.specs.declared.setup.Setup.{Setup}
+use Rattle.file_order.specs.declared.setup.Setup.{Setup}
 use Rattle.file_tables.specs.Table.{row0B, row0F, rules, bandRules}
-use Rattle.file_tables.specs.Setup.{rowFor}
-use Rattle.file_tables.proofs.TableLaws.{each-row, each-row-for}
+use Rattle.file_order.specs.Setup.{rowFor}
+use Rattle.file_order.proofs.KnownLaws.{each-row-for}
+use Rattle.file_tables.proofs.TableLaws.{each-row}
 
 -- a word after the first, among the first n
 unfoldable pub among : ℕ → ℕ → Bool

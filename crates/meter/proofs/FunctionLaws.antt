@@ -12,10 +12,11 @@ use Rattle.words.proofs.Choice.{cond-first}
 use Rattle.file_rules.specs.declared.Tested.the-variants.{Good}
 use Rattle.file_rules.specs.Block.{allows, inForce, obeyed, ruled, rulesIn, kept}
 use Rattle.file_rules.proofs.BlockLaws.{no-bad, then-good, kept-says}
-use Rattle.file_tables.specs.declared.setup.Setup.{Setup}
+use Rattle.file_order.specs.declared.setup.Setup.{Setup}
 use Rattle.file_tables.specs.Table.{within, oneOf, rowOf}
-use Rattle.file_tables.specs.Setup.{slimOf, learnt, rowFor}
-use Rattle.file_tables.proofs.TableLaws.{obeyed-within, id-in, row-at, learnt-04}
+use Rattle.file_order.specs.Setup.{slimOf, learnt, rowFor}
+use Rattle.file_order.proofs.KnownLaws.{id-in, row-at, learnt-04}
+use Rattle.file_tables.proofs.TableLaws.{obeyed-within}
 use Rattle.call_check.specs.declared.judge.State.{State}
 use Rattle.call_check.specs.declared.judge.Judged.the-variants.{Passed}
 use Rattle.call_check.specs.Judge.{skipped, entered, enteredBy, surveyed}

@@ -16,7 +16,7 @@ use Rattle.law_read.proofs.ClassLaws.{classes-few}
 use Rattle.law_read.proofs.ReadLaws.{contents-few}
 use Rattle.sheet_lines.specs.Line.{SheetLine}
 use Rattle.sheet_lines.specs.Lines.{timeRow, spanRow}
-use Rattle.sheet_names.proofs.EntryLaws.{shown-few}
+use Rattle.sheet_results.proofs.EntryLaws.{shown-few}
 use Rattle.words.proofs.NumberLaws.{numbers-length}
 use Rattle.sheet_page.specs.Rows.{timeRows, bandRows, totalRows, levelRows, classRows, recordRows, texts}
 use Rattle.sheet_page.specs.Sheet.{whereThere, modelIn, functionIn, headLines, timeIn, resultLines, spectrumLines, histogramIn, statisticsLines, widthIn, bufferLines, sheetLines, sheetTexts}

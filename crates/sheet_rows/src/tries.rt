@@ -2,19 +2,19 @@
 // decides, it is made in a scratch array and copied.
 use paging::fit::Tried;
 use paging::fit::try_line;
-use sheet_lines::line::Line;
-use sheet_lines::line::put_entry;
-use sheet_lines::line::put_line;
-use sheet_lines::line::put_record;
-use sheet_lines::line::put_result;
-use sheet_names::Entry;
+use sheet_kinds::Line;
+use sheet_kinds::put_line;
+use sheet_lines::put_entry;
+use sheet_lines::put_record;
+use sheet_lines::put_result;
+use sheet_results::Entry;
 ghost use Prim.Native.Nat.{_+_, _-_, _≤_};
 ghost use lib.ListN.{length};
 ghost use Rattle.words.specs.Words.{wordsOf};
 ghost use Rattle.paging.specs.Fit.{TriedTo};
 ghost use Rattle.sheet_lines.specs.Line.{bytes};
-ghost use Rattle.sheet_lines.specs.Lines.{textEntry, resultRow, recordRow};
-ghost use Rattle.sheet_lines.specs.Kinds.{lineOf, Brief, cells};
+ghost use Rattle.sheet_lines.specs.Lines.{textEntry, resultRow, recordRow, cells};
+ghost use Rattle.sheet_kinds.specs.Kinds.{lineOf, Brief};
 
 pub fn fit_line(out: &mut [u8], line: Line) -> Tried
     requires { ⌜ Brief line ⌝ }

@@ -3,7 +3,7 @@ use desk_files::Task;
 use desk_files::load::Got;
 use desk_files::load::load;
 use desk_files::put_path;
-use desk_files::serve_all;
+use desk_return::serve_all;
 use libc::STDOUT_FILENO;
 
 // Sets what may be done with a file or a folder.

@@ -17,7 +17,7 @@ use Rattle.call_slim.proofs.copy_words.Tie as tie
 use Rattle.call_slim.proofs.copy_words.Reads as reads
 use Rattle.call_slim.proofs.copy_words.Lts as lts
 use Rattle.file_walk.proofs.Cursor.start.Reads as start-reads
-use Rattle.file_tables.proofs.setup.Setup.none.Reads as none-reads
+use Rattle.file_order.proofs.setup.Setup.none.Reads as none-reads
 use Rattle.file_walk.proofs.Cursor.step.Reads as step-reads
 use Rattle.call_slim.proofs.part_words.Reads as part-words-reads
 use Rattle.call_slim.proofs.known_from.Reads as known-from-reads

@@ -18,7 +18,7 @@ use Rattle.call_slim.proofs.put_copy.Tie as tie
 use Rattle.call_slim.proofs.put_copy.Reads as reads
 use Rattle.call_slim.proofs.put_copy.Lts as lts
 use Rattle.file_walk.proofs.Cursor.start.Reads as start-reads
-use Rattle.file_tables.proofs.setup.Setup.none.Reads as none-reads
+use Rattle.file_order.proofs.setup.Setup.none.Reads as none-reads
 use Rattle.file_walk.proofs.Cursor.step.Reads as step-reads
 use Rattle.file_slim.proofs.put_word.Reads as put-word-reads
 use Rattle.call_slim.proofs.put_part.Reads as put-part-reads

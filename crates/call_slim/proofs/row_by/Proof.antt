@@ -1,6 +1,6 @@
 use mathlib.Core.Path.{ap, _∙_}
 use borrow.Author.Needs.{needs}
-use Rattle.file_tables.specs.Setup.{rowFor}
+use Rattle.file_order.specs.Setup.{rowFor}
 use Rattle.call_slim.proofs.row_by.Statement.{statement}
 use Rattle.call_slim.proofs.row_by.Tie as tie
 

@@ -3,10 +3,10 @@ use borrow.Author.Tests.{not-true, not-false}
 use mathlib.Core.Path.{sym, ap, subst⁻¹, _∙_}
 use Rattle.words.specs.Words.{wordsOf}
 use Rattle.file_rules.specs.Block.{Small}
-use Rattle.file_tables.specs.Setup.{rowFor}
-use Rattle.file_tables.specs.Order.{keyOf, isDue}
+use Rattle.file_order.specs.Setup.{rowFor}
+use Rattle.file_order.specs.Order.{keyOf, isDue}
 use Rattle.call_check.specs.declared.judge.Judged.the-variants.{Passed}
-use Rattle.file_tables.proofs.TableLaws.{row-small}
+use Rattle.file_order.proofs.KnownLaws.{row-small}
 use Rattle.call_check.proofs.Turns.{seen-skip, seen-order, seen-good, seen-bad}
 use borrow.Author.Needs.{needs}
 use Rattle.call_check.proofs.judge.State.seen.Statement.{statement}

@@ -1,0 +1,2 @@
+-- The laws of what is known, and of the row of a block.
+pub mod KnownLaws
