@@ -128,6 +128,13 @@ fn three_subs(id: u8, least: usize, rules: Rules) -> Subs
     }
 }
 
+// Sub-blocks of which no word is asked.
+fn three_bare(id: u8, least: usize) -> Subs
+    ensures { λ r. ⌜ r ≡ record { count = 3; id = id; least = least; rules = rules [] } ⌝ }
+{
+    three_subs(id, least, NO_RULES)
+}
+
 fn row(least: usize, rules: Rules, more: More, subs: Subs) -> Row
     ensures { λ r. ⌜ r ≡ tableRow least rules more subs ⌝ }
 {
@@ -150,10 +157,24 @@ fn with_subs(least: usize, rules: Rules, subs: Subs) -> Row
     row(least, rules, More::Nothing, subs)
 }
 
+// Least words that depend on the block's own.
+fn plain_more(least: usize, rules: Rules, more: More) -> Row
+    ensures { λ r. ⌜ r ≡ tableRow least rules more noSubs ⌝ }
+{
+    row(least, rules, more, NO_SUBS)
+}
+
 fn plain(least: usize, rules: Rules) -> Row
     ensures { λ r. ⌜ r ≡ tableRow least rules Nothing noSubs ⌝ }
 {
-    with_subs(least, rules, NO_SUBS)
+    plain_more(least, rules, More::Nothing)
+}
+
+// A block of which no word is asked.
+fn bare(least: usize) -> Row
+    ensures { λ r. ⌜ r ≡ tableRow least (rules []) Nothing noSubs ⌝ }
+{
+    plain(least, NO_RULES)
 }
 
 // ---- the rows
@@ -162,7 +183,7 @@ fn plain(least: usize, rules: Rules) -> Row
 fn unit() -> Row
     ensures { λ r. ⌜ r ≡ row02 ⌝ }
 {
-    row(
+    plain_more(
         6,
         one(either_of(2, 945, 953, 5)),
         More::Where {
@@ -170,7 +191,6 @@ fn unit() -> Row
             is: 953,
             words: 4,
         },
-        NO_SUBS,
     )
 }
 
@@ -203,7 +223,7 @@ fn settings(model: u16) -> Row
 fn title() -> Row
     ensures { λ r. ⌜ r ≡ row03 ⌝ }
 {
-    let mut r = plain(2, NO_RULES);
+    let mut r = bare(2);
     r.text = true;
     r
 }
@@ -234,9 +254,9 @@ fn results(model: u16) -> Row
 {
     let head = one(equals(1, 0x0307, 6));
     if model == 953 {
-        with_subs(47, head, three_subs(0x08, 15, NO_RULES))
+        with_subs(47, head, three_bare(0x08, 15))
     } else {
-        with_subs(44, head, three_subs(0x08, 14, NO_RULES))
+        with_subs(44, head, three_bare(0x08, 14))
     }
 }
 
@@ -246,7 +266,7 @@ fn octave(model: u16) -> Row
 {
     let head = equals(1, 0x0101, 6);
     if model == 953 {
-        row(
+        plain_more(
             5,
             four(
                 head,
@@ -255,7 +275,6 @@ fn octave(model: u16) -> Row
                 within(4, 0, 3, 8),
             ),
             More::Counts { at: 3 },
-            NO_SUBS,
         )
     } else {
         plain(
@@ -284,14 +303,14 @@ fn third() -> Row
 fn statistics() -> Row
     ensures { λ r. ⌜ r ≡ row09 ⌝ }
 {
-    with_subs(14, one(equals(1, 0x0703, 6)), three_subs(0x0A, 4, NO_RULES))
+    with_subs(14, one(equals(1, 0x0703, 6)), three_bare(0x0A, 4))
 }
 
 // Tab. B.1.13, statistics. The long form is allowed.
 pub fn histogram_row(classes: u16) -> Row
     ensures { λ r. ⌜ r ≡ row0B classes ⌝ }
 {
-    let mut r = plain(2 * (classes as usize) + 2, NO_RULES);
+    let mut r = bare(2 * (classes as usize) + 2);
     r.exact = true;
     r
 }
@@ -321,7 +340,7 @@ pub fn logger_row(bands: u16, profiles: u16) -> Row
 fn unlisted() -> Row
     ensures { λ r. ⌜ r ≡ unlisted ⌝ }
 {
-    let mut r = plain(0, NO_RULES);
+    let mut r = bare(0);
     r.listed = false;
     r
 }
@@ -331,7 +350,7 @@ pub fn row_of(model: u16, id: u16) -> Row
     ensures { λ r. ⌜ r ≡ rowOf model id ⌝ }
 {
     match id {
-        0x01 => plain(12, NO_RULES),
+        0x01 => bare(12),
         0x02 => unit(),
         0x03 => title(),
         0x04 => settings(model),

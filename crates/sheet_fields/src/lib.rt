@@ -1,5 +1,5 @@
-// The fields of the sheet's lines, from plain values, each after its comma. Each writer is lent the output from its first free byte on, and
-// answers how many bytes it wrote.
+// The fields of the sheet's lines, from plain values, each after its comma. Each writer is lent the output from its first free
+// byte on, and answers how many bytes it wrote.
 use sheet_names::put_buffer_column;
 use sheet_names::put_filter_column;
 use text::decimal::put_decimal;

@@ -8,7 +8,7 @@ use Rattle.file_tables.proofs.row_of.Tie as tie
 
 returns : tie.Need-returns
 unfolding rowOf
-returns c = rw (c .plain .ensures, c .before .match .keys1)
+returns c = rw (c .bare .ensures, c .before .match .keys1)
 
 returns-2 : tie.Need-returns-2
 unfolding rowOf
