@@ -14,7 +14,7 @@ use Rattle.file_walk.specs.declared.Cursor.{Cursor}
 use Rattle.file_walk.specs.declared.Stop.{Stop}
 use Rattle.file_walk.specs.declared.Step.{Step}
 use Rattle.file_walk.specs.declared.Step.the-variants.{Block, Over}
-use Rattle.file_walk.specs.Walk.{cut, frontOf, rawOf, stepAt, Walk, block, Part, partsOf}
+use Rattle.file_walk.specs.Walk.{cut, frontOf, rawOf, stepAt, Walk, Part, partsOf}
 use Rattle.file_walk.proofs.Steps.{walkFrom, walk-start, walk-over, walk-block}
 use Rattle.file_read.proofs.Places.{block-at}
 use Rattle.file_rules.specs.declared.Tested.the-variants.{Good}

@@ -5,11 +5,11 @@ use mathlib.Core.Path.{_≡_, refl, sym, ap, _∙_}
 use Prim.Native.Nat.{ℕ, zero, suc, _%_, _≤_, _<_}
 use native.Mathlib.Omega.{arith}
 use lib.Dec.{eqb, ltb}
-use lib.ListN.{length, getD, drop-of-length-le}
+use lib.ListN.{length, getD}
 use borrow.Author.Tests.{eqb-true, eqb-false, ltb-false}
 use Rattle.words.specs.Words.{low, wordsOf}
 use Rattle.words.proofs.WordLaws.{words-length}
-use Rattle.file_walk.specs.Walk.{fronted, frontOf, rawOf}
+use Rattle.file_walk.specs.Walk.{rawOf}
 use Rattle.file_read.specs.Read.{recordAt, recordWord, blockAt, rawAt}
 use Rattle.file_read.proofs.Places.{none-at}
 use Rattle.file_rules.specs.Slim.{Slim, slimBy, headBy, wordIn, subWordIn}

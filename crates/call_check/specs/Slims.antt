@@ -3,9 +3,9 @@ use mathlib.Core.Bool.{cond}
 use mathlib.Core.List.{List, [], _∷_, _++_}
 use Prim.Native.Nat.{ℕ, _+_}
 use lib.Dec.{eqb}
-use lib.ListN.{length, getD, take, drop}
+use lib.ListN.{getD}
 use Rattle.words.specs.Words.{low, wordsOf}
-use Rattle.file_walk.specs.Walk.{broken, ended, cut, frontOf, rawOf, Part, partsOf, walked}
+use Rattle.file_walk.specs.Walk.{Part, partsOf, walked}
 use Rattle.file_rules.specs.Slim.{Slim, wordIn}
 use Rattle.call_check.specs.declared.judge.Starts.{Starts}
 use Rattle.file_order.specs.declared.setup.Setup.{Setup}

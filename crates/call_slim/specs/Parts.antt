@@ -5,7 +5,7 @@ use mathlib.Core.Path.{_≡_}
 use Prim.Native.Nat.{ℕ, _+_, _≤_}
 use lib.ListN.{length, getD, take, drop}
 use Rattle.file_walk.specs.Walk.{Part, rawOf}
-use Rattle.file_rules.specs.Slim.{Slim, wordsIn}
+use Rattle.file_rules.specs.Slim.{wordsIn}
 use Rattle.file_order.specs.declared.setup.Setup.{Setup}
 use Rattle.file_order.specs.Setup.{rowFor}
 use Rattle.file_slim.specs.Cut.{Cuts}

@@ -17,7 +17,7 @@ use Rattle.file_tables.specs.Table.{kindOf}
 use Rattle.file_order.specs.Setup.{rowFor, slimOf}
 use Rattle.file_order.proofs.KnownLaws.{row-exact, row-text}
 use Rattle.file_read.specs.Read.{blockAt}
-use Rattle.call_check.proofs.Found.{Found, there, nowhere, found}
+use Rattle.call_check.proofs.Found.{Found, there, nowhere}
 use Rattle.file_read.proofs.Places.{block-at}
 use Rattle.call_check.proofs.FoundWords.{place-id}
 

@@ -8,7 +8,7 @@ use file_rules::Subs;
 ghost use mathlib.Core.Path.{_≡_};
 ghost use mathlib.Core.List.{[], _∷_};
 ghost use Prim.Native.Nat.{_+_};
-ghost use Rattle.file_tables.specs.Table.{rule, within, equals, oneOf, eitherOf, also, noRule, rules, subBlocks, noSubs, tableRow, row02, row03, row04, row05, row07, row0E, row10, row09, row0B, unlisted, bandRules, row0F, rowOf};
+ghost use Rattle.file_tables.specs.Table.{rule, within, equals, oneOf, eitherOf, also, rules, noSubs, tableRow, row02, row03, row04, row05, row07, row0E, row10, row09, row0B, unlisted, bandRules, row0F, rowOf};
 ghost use Rattle.file_rules.specs.declared.More.the-variants.{Nothing};
 
 // ---- rules and rows
