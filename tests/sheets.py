@@ -3,6 +3,8 @@
 from blocks import (BANDS, END, HISTOGRAMS, M945, M953, ON, Block, File, file_953, histogram, logger, opening, profiles,
                     spectrum_block, title)
 
+# The first nine of a 945's results are levels; T-02: then come N, which is none, and LN.
+LEVELS_945 = 'PEAK', 'MAX', 'MIN', 'SPL', 'LEQ', 'SEL', 'Lex8', 'Ltm3', 'Ltm5'
 # T-01: the rows of a 953's results by their offsets in a sub-block; a dose meter has two more.
 ROWS_953 = {'PEAK': 3, 'MAX': 5, 'MIN': 6, 'SPL': 7, 'LEQ': 8, 'Lden': 9, 'Ltm3': 10, 'Ltm5': 11}
 DOSE_ROWS = ROWS_953 | {'LAV': 12, 'TLAV': 13}
@@ -52,11 +54,19 @@ def wide_classes():
     counts = histogram(HISTOGRAMS[0], count).edit({2 * count: 65535, 2 * count + 1: 65535})
     blocks = opening(1, (2, 3, 1), (0, 0, 0), ON, 0)
     blocks += results, statistics, counts, *(histogram(kind, 0) for kind in HISTOGRAMS[1:]), Block('end', (END,))
-    names = ('PEAK', 'MAX', 'MIN', 'SPL', 'LEQ', 'SEL', 'Lex8', 'Ltm3', 'Ltm5', 'N', 'LN')
     lines = head(1, '') + ['result,unit,P1 A,P2 C,P3 Lin', 'time,s' + ',4294967295' * 3]
-    lines += [f'{name},dB,0.0,0.0,0.0' for name in names] + ['profile,from dB,count']
+    lines += [f'{name},dB,0.0,0.0,0.0' for name in LEVELS_945] + ['N,%,0,0,0', 'LN,dB,0.0,0.0,0.0', 'profile,from dB,count']
     lines += [f'P1,{tenths(32767 + i * 65535)},17' for i in range(count - 1)]
     return without_title(File(1, blocks)), lines + [f'P1,{tenths(32767 + (count - 1) * 65535)},4294967295']
+
+
+def plain_numbers():
+    """T-02: an N that is 65,535, one at the sign of a level, and a 0; LN has the same words, which are levels there."""
+    words = 65535, 32768, 0
+    results = profiles('07', [{12: word, 13: word} for word in words])
+    blocks = opening(1, (2, 3, 1), (0, 0, 0), ON, 0) + (results, Block('end', (END,)))
+    lines = head(1) + ['result,unit,P1 A,P2 C,P3 Lin', 'time,s,0,0,0'] + [f'{name},dB,0.0,0.0,0.0' for name in LEVELS_945]
+    return File(1, blocks), lines + ['N,%,65535,32768,0', 'LN,dB,-0.1,-3276.8,0.0']
 
 
 def wide_classes_953():
@@ -142,3 +152,6 @@ def asks():
         yield f'953, longest sheet from line {n}', b'', classes, bounds, n, 65536
     for (file, lines), name in zip(octaves_953(), ('15', '6')):
         yield f'953, {name} octaves', b'', file, lines, 6, 1024
+    file, lines = plain_numbers()
+    for n in 0, len(lines) - 2:
+        yield f'plain numbers from line {n}', b'', file, lines, n, 1024

@@ -142,7 +142,7 @@ impl Compare<'_> {
     /// One call of Sheet; hands back what the reading has.
     fn sheet(&mut self, subject: &Subject, lines: &Lines, n: u32, room: usize) -> Result<Option<Answer>, Difference> {
         let answer = reading::answer(lines, subject.label.len(), n, room);
-        self.tally.sheet(lines.as_deref().unwrap_or_default().len(), n, &answer);
+        self.tally.sheet(lines.as_deref().unwrap_or_default(), n, &answer);
         let (due, written) = sheet_reply(&answer);
         let mut output = Output::new(&mut self.random, room, self.exact);
         self.tally.calls += 1;
@@ -157,7 +157,8 @@ impl Compare<'_> {
 
     /// The whole sheet from line 0 on, call by call, against the joined lines.
     fn walk(&mut self, subject: &Subject, lines: &Lines) -> Result<(), Difference> {
-        let whole = lines.as_deref().unwrap_or_default().concat();
+        let known = lines.as_deref().unwrap_or_default();
+        let whole = known.concat();
         let most = 2_048 + whole.len() / 20;
         let mut joined = Vec::new();
         let mut n = 0;
@@ -173,7 +174,7 @@ impl Compare<'_> {
                 break;
             }
         }
-        self.tally.walked += 1;
+        self.tally.walk(known);
         subject.same_bytes("sheet, walked", &joined, &whole)
     }
 
@@ -201,8 +202,8 @@ impl Compare<'_> {
         let subject = self.subject(file, label.clone());
         let longer = self.subject(longer, label);
         self.calls(&longer)?;
-        let lines = reading::lines(&subject.file, &subject.label);
-        let room = lines.map_or(0, |lines| lines.concat().len()).max(1_024);
+        let lines = reading::lines(&subject.file, &subject.label).unwrap_or_default();
+        let room = lines.concat().len().max(1_024);
         let (first, first_bytes) = self.whole_sheet(&subject, room);
         let (second, second_bytes) = self.whole_sheet(&longer, room);
         longer.same("sheet, additions", second, first)?;
@@ -214,7 +215,7 @@ impl Compare<'_> {
         longer.same("slim, additions", second, first)?;
         longer.same("slim, additions", first.refusal, 0)?;
         longer.same_bytes("slim, additions", &second_bytes, &first_bytes)?;
-        self.tally.addition(&subject.file);
+        self.tally.addition(&subject.file, &lines);
         Ok(())
     }
 

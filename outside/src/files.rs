@@ -205,6 +205,15 @@ fn any_number(random: &mut Random) -> u16 {
     }
 }
 
+/// Result 10, a percentage in a 945: a number as the meter has it, one at a boundary, or any word. In a 953 it is a level.
+fn any_percentage(random: &mut Random) -> u16 {
+    match random.below(3) {
+        0 => random.below(100) as u16,
+        1 => any_number(random),
+        _ => any_word(random),
+    }
+}
+
 /// Text without nulls: of any bytes or of letters.
 fn text(random: &mut Random, len: usize) -> Vec<u8> {
     let wild = random.one_in(3);
@@ -310,7 +319,9 @@ fn results(random: &mut Random, model: Model) -> Vec<u16> {
     for _ in 0..3 {
         words.push(header(0x08, sub));
         words.extend([any_number(random), if random.one_in(2) { 0 } else { any_number(random) }]);
-        words.extend(any_words(random, sub - 3));
+        words.extend(any_words(random, 9));
+        words.push(any_percentage(random));
+        words.extend(any_words(random, sub - 13));
     }
     words
 }

@@ -1,4 +1,4 @@
-//! What is worth a count in a file besides its kind and its fault: what the models do not share, and faults that compete.
+//! What is worth a count in a file besides its kind and its fault: what the models do not share, faults that compete, and the row N.
 
 use crate::check::{first_band, octave_words, read, Model, Reading, Refusal, LOWEST};
 
@@ -58,6 +58,19 @@ const OTHERS: [&str; 27] = [
     "953, lowest frequency of 1000 Hz or more, cut to a word: 8",
 ];
 
+/// The comparisons that may hold the row N of a 945. The last one is of the library with itself.
+const N_CALLS: [&str; 4] = ["sheet", "sheet, from a later line", "sheet, walked", "sheet, additions"];
+
+/// What the three numbers of a row N may be, so that another reading of the row shows.
+type Numbers = (&'static str, fn(&[u16]) -> bool);
+
+const N_ROWS: [Numbers; 4] = [
+    ("an N of 32,768 or more", |row| row.iter().any(|number| *number >= 32_768)),
+    ("an N of 65,535", |row| row.contains(&65_535)),
+    ("an N under 10", |row| row.iter().any(|number| *number < 10)),
+    ("three different N", |row| row[0] != row[1] && row[1] != row[2] && row[0] != row[2]),
+];
+
 /// All that a long run must have met.
 pub fn due() -> Vec<String> {
     let mut due: Vec<String> = OTHERS.iter().map(|name| name.to_string()).collect();
@@ -65,6 +78,7 @@ pub fn due() -> Vec<String> {
     due.extend((0..=3).map(totals_name));
     due.extend(UNLISTED.map(unlisted_name));
     due.extend(VALUES.map(|(model, cause, value)| value_name(model, cause, value)));
+    due.extend(N_ROWS.iter().flat_map(|(numbers, _)| N_CALLS.map(|call| n_name(numbers, call))));
     due
 }
 
@@ -89,6 +103,20 @@ fn unlisted_name(id: u8) -> String {
 
 fn value_name(model: Model, cause: &str, value: u16) -> String {
     format!("{}, {cause} {value}: 8", model_name(model))
+}
+
+fn n_name(numbers: &str, call: &str) -> String {
+    format!("945, {numbers}: {call}")
+}
+
+/// The counts of the lines that a call was compared in: of the row N, if it is among them.
+pub fn compared(call: &str, lines: &[Vec<u8>]) -> Vec<String> {
+    let Some(row) = lines.iter().find_map(|line| line.strip_prefix(b"N,%,")) else {
+        return Vec::new();
+    };
+    let row = String::from_utf8_lossy(row);
+    let row: Vec<u16> = row.trim_end().split(',').map(|number| number.parse().expect("a word")).collect();
+    N_ROWS.iter().filter(|(_, holds)| holds(&row)).map(|(numbers, _)| n_name(numbers, call)).collect()
 }
 
 /// The counts of an accepted file.

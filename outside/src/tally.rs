@@ -13,7 +13,7 @@ pub struct Tally {
     pub files: u64,
     pub calls: u64,
     pub bytes: u64,
-    pub walked: u64,
+    walked: u64,
     accepted: BTreeMap<&'static str, u64>,
     additions: BTreeMap<&'static str, u64>,
     refused: BTreeMap<Fault, u64>,
@@ -74,7 +74,7 @@ impl Tally {
     /// Counts a file by what the reading says of it.
     pub fn file(&mut self, file: &[u8]) {
         self.files += 1;
-        let notes = match read(file) {
+        let names = match read(file) {
             Ok(reading) => {
                 *self.accepted.entry(kind(&reading)).or_default() += 1;
                 if file.len() == 65_536 {
@@ -87,16 +87,27 @@ impl Tally {
                 notes::refused(file, &refusal)
             }
         };
-        for name in notes {
+        self.note(names);
+    }
+
+    fn note(&mut self, names: Vec<String>) {
+        for name in names {
             *self.notes.entry(name).or_default() += 1;
         }
     }
 
-    /// Counts a file whose additions were compared with it.
-    pub fn addition(&mut self, file: &[u8]) {
+    /// Counts a file whose additions were compared with it, and the lines of both.
+    pub fn addition(&mut self, file: &[u8], lines: &[Vec<u8>]) {
         if let Ok(reading) = read(file) {
             *self.additions.entry(kind(&reading)).or_default() += 1;
         }
+        self.note(notes::compared("sheet, additions", lines));
+    }
+
+    /// Counts a sheet that was walked, of these lines.
+    pub fn walk(&mut self, lines: &[Vec<u8>]) {
+        self.walked += 1;
+        self.note(notes::compared("sheet, walked", lines));
     }
 
     fn refusal(&mut self, refusal: &Refusal) {
@@ -108,15 +119,20 @@ impl Tally {
     }
 
     /// Counts an answer of Sheet; refusals of the file are counted with the file.
-    pub fn sheet(&mut self, lines: usize, n: u32, answer: &Result<Answer, Refusal>) {
+    pub fn sheet(&mut self, lines: &[Vec<u8>], n: u32, answer: &Result<Answer, Refusal>) {
+        let first = n as usize;
         match answer {
-            Ok(_) if n as usize >= lines => self.answer("sheet finished, no lines left"),
-            Ok(answer) => self.answer(match (answer.finished, n) {
-                (true, 0) => "sheet finished",
-                (true, _) => "sheet finished, from a later line",
-                (false, 0) => "sheet cut by the output",
-                (false, _) => "sheet cut by the output, from a later line",
-            }),
+            Ok(_) if first >= lines.len() => self.answer("sheet finished, no lines left"),
+            Ok(answer) => {
+                self.answer(match (answer.finished, n) {
+                    (true, 0) => "sheet finished",
+                    (true, _) => "sheet finished, from a later line",
+                    (false, 0) => "sheet cut by the output",
+                    (false, _) => "sheet cut by the output, from a later line",
+                });
+                let call = if n == 0 { "sheet" } else { "sheet, from a later line" };
+                self.note(notes::compared(call, &lines[first..first + answer.lines as usize]));
+            }
             Err(refusal) if refusal.number >= 10 => self.refusal(refusal),
             Err(_) => {}
         }

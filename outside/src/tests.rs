@@ -1,4 +1,4 @@
-//! The reading on the checked files of document 01 and on files of the 953, its printers, and the generator.
+//! The reading on the checked files of document 01, on files of the 953 and on the row N, its printers, and the generator.
 
 use crate::check::{check, first_band, least, Model, Refusal, ABSENT, LOWEST};
 use crate::files::{accepted, bytes, lengthen, MOST_WORDS};
@@ -184,6 +184,30 @@ fn checked_file_9() {
     assert_eq!(copy(&bytes(&words)), Ok(bytes(&file_8())));
 }
 
+/// The lines behind the heading of a 945's 07 with these N and LN; result r of 1 to 9 is r tenths.
+fn results_945(n: [u16; 3], ln: [u16; 3]) -> String {
+    let mut words = front(1, &HALL);
+    words.extend([0x2C07, 0x0307]);
+    for profile in 0..3 {
+        words.extend([0x0E08, 0, 0, 1, 2, 3, 4, 5, 6, 7, 8, 9, n[profile], ln[profile]]);
+    }
+    words.push(0xFFFF);
+    let sheet = text(&words, b"");
+    sheet.split_once("result,unit,P1 A,P2 C,P3 Lin\n").expect("a heading").1.to_string()
+}
+
+/// "The row becomes `N,%` with three unsigned whole numbers. Row LN stays in tenths." (T-02)
+#[test]
+fn the_row_n() {
+    let levels = "time,s,0,0,0\nPEAK,dB,0.1,0.1,0.1\nMAX,dB,0.2,0.2,0.2\nMIN,dB,0.3,0.3,0.3\nSPL,dB,0.4,0.4,0.4\n\
+                  LEQ,dB,0.5,0.5,0.5\nSEL,dB,0.6,0.6,0.6\nLex8,dB,0.7,0.7,0.7\nLtm3,dB,0.8,0.8,0.8\n\
+                  Ltm5,dB,0.9,0.9,0.9\n";
+    let rows = results_945([0, 10, 32_768], [0, 10, 0xFFFB]);
+    assert_eq!(rows, format!("{levels}N,%,0,10,32768\nLN,dB,0.0,1.0,-0.5\n"));
+    let rows = results_945([65_535, 9, 32_767], [32_768, 65_535, 32_767]);
+    assert_eq!(rows, format!("{levels}N,%,65535,9,32767\nLN,dB,-3276.8,-0.1,3276.7\n"));
+}
+
 /// The words of a 953's 04: the function, and the words at offsets.
 fn settings_953(function: u16, given: &[(usize, u16)]) -> Vec<u16> {
     let mut words = block_of(0x04, 28, given);
@@ -260,12 +284,17 @@ fn dose_meter_953() {
     ];
     let front = [settings_953(4, &[(14, 9), (15, 9)]), profiles_953([0, 2, 3], [1, 2, 4]), results_953()];
     let rows = format!("{HEAD_953}function=4\n{ROWS_953}LAV,dB,11.0,21.0,31.0\nTLAV,dB,11.1,21.1,31.1\n");
-    let words = file_953(&front);
+    let mut words = file_953(&front);
     assert_eq!(text(&words, b""), rows);
     assert_eq!(check(&bytes(&words)).map(|record| record.function), Ok(4));
     let with_statistics = file_953(&[&front[..], &statistics].concat());
     assert_eq!(text(&with_statistics, b""), format!("{rows}profile,from dB,count\nP1,24.0,17\n"));
     assert_eq!(copy(&bytes(&with_statistics)), Ok(bytes(&with_statistics)));
+    // Result 10 is a level, as it was before T-02.
+    for (at, word) in [(88, 0), (103, 32_768), (118, 65_535)] {
+        words[at] = word;
+    }
+    assert!(text(&words, b"").ends_with("LAV,dB,0.0,-3276.8,-0.1\nTLAV,dB,11.1,21.1,31.1\n"));
     // "function 4 has the block order of 1": no 0E.
     let with_octaves = file_953(&[&front[..], &[octaves_953(8, 3_150, 2, 1)]].concat());
     assert_eq!(refused(&with_octaves), (4, 121));
@@ -385,7 +414,7 @@ fn the_model_in_block_02_decides() {
     let sheet = text(&words, b"");
     assert!(sheet.starts_with("unit=945\nnumber=77\n"));
     assert!(sheet.contains("P3 A\ntime,s,65537,131074,196611\nPEAK,dB,10.1,20.1,30.1\nMAX,dB,10.2,20.2,30.2\n"));
-    assert!(sheet.contains("LN,dB,11.1,21.1,31.1\nband,Hz,dB LIN\n"));
+    assert!(sheet.contains("N,%,110,210,310\nLN,dB,11.1,21.1,31.1\nband,Hz,dB LIN\n"));
     let slim = copy(&bytes(&words)).expect("an accepted file");
     assert_eq!(slim.len(), bytes(&words).len() - 2 * (4 + 5 + 3));
     assert_eq!(check(&slim).map(|record| record.starts), Ok([0, 12, 18, 22, 45, 65, 109, ABSENT, ABSENT]));

@@ -96,16 +96,19 @@ facts =
     -- later lines of a sheet
     ∷ is (getD (sheetTexts (fileOf levelParts) []) 0 []) (ascii "unit=945\n")
     ∷ is (getD (sheetTexts (fileOf levelParts) []) 6 []) (ascii "result,unit,P1 A,P2 C,P3 Lin\n")
+    ∷ is (getD (sheetTexts (fileOf levelParts) []) 17 []) (ascii "N,%,659,65529,32777\n")
+    ∷ is (getD (sheetTexts (fileOf levelParts) []) 18 []) (ascii "LN,dB,66.0,-0.6,-3275.8\n")
     ∷ is (getD (sheetTexts (fileOf levelParts) []) 25 []) (ascii "P3,25.0,65542\n")
     ∷ is (getD (sheetTexts (fileOf doseParts) []) 0 []) (ascii "unit=953\n")
     ∷ is (getD (sheetTexts (fileOf doseParts) []) 6 []) (ascii "result,unit,P1 A,P2 C,P3 Z\n")
     ∷ is (getD (sheetTexts (fileOf doseParts) []) 8 []) (ascii "overload,s,90,,\n")
+    ∷ is (getD (sheetTexts (fileOf doseParts) []) 17 []) (ascii "LAV,dB,65.9,-0.7,-3275.9\n")
     ∷ is (getD (sheetTexts (fileOf doseParts) []) 18 []) (ascii "TLAV,dB,66.0,-0.6,-3275.8\n")
     ∷ is (getD (sheetTexts (fileOf spectrumParts) []) 18 []) (ascii "1,31.5,60.0\n")
     ∷ is (getD (sheetTexts (fileOf spectrumParts) []) 28 []) (ascii "T1,,61.0\n")
     -- lines, bytes and whether it is finished, by the line number and the room
-    ∷ is (sheetValues (fileOf thirdParts) 0 0 65536) (0 ∷ (0 ∷ (75 ∷ (1057 ∷ (1 ∷ [])))))
-    ∷ is (sheetValues (fileOf thirdParts) 0 0 1024) (0 ∷ (0 ∷ (72 ∷ (1019 ∷ (0 ∷ [])))))
+    ∷ is (sheetValues (fileOf thirdParts) 0 0 65536) (0 ∷ (0 ∷ (75 ∷ (1054 ∷ (1 ∷ [])))))
+    ∷ is (sheetValues (fileOf thirdParts) 0 0 1024) (0 ∷ (0 ∷ (72 ∷ (1016 ∷ (0 ∷ [])))))
     ∷ is (sheetValues (fileOf thirdParts) 0 72 1024) (0 ∷ (0 ∷ (3 ∷ (38 ∷ (1 ∷ [])))))
     ∷ is (sheetValues (fileOf thirdParts) 0 75 1024) (0 ∷ (0 ∷ (0 ∷ (0 ∷ (1 ∷ [])))))
     -- "The order is 1; then file order; then 10; then 11"

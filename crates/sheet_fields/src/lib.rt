@@ -2,6 +2,7 @@
 // byte on, and answers how many bytes it wrote.
 use sheet_names::put_buffer_column;
 use sheet_names::put_filter_column;
+use sheet_results::Number;
 use text::decimal::put_decimal;
 use text::decimal::put_short;
 use text::put::put_byte;
@@ -23,7 +24,7 @@ ghost use Rattle.text.specs.Text.{Wrote};
 ghost use Rattle.units.specs.Frequency.{centihertz};
 ghost use Rattle.units.specs.Level.{tenths};
 ghost use Rattle.sheet_names.specs.Names.{filterColumn};
-ghost use Rattle.sheet_fields.specs.Fields.{further, levelField, lettered, bufferColumn, bandColumns};
+ghost use Rattle.sheet_fields.specs.Fields.{further, levelField, resultField, lettered, bufferColumn, bandColumns};
 
 // Tenths of a decibel after a comma.
 pub fn put_decibels(out: &mut [u8], t: Tenths) -> usize
@@ -173,13 +174,24 @@ pub fn put_levels(out: &mut [u8], words: &[u8]) -> usize
     at
 }
 
-// The levels of the three profiles, and the line's end.
-pub fn put_cells(out: &mut [u8], first: u16, second: u16, third: u16) -> usize
-    requires { ⌜ 40 ≤ length (now out) ⌝ }
-    ensures { λ r. ⌜ Wrote (further (levelField first ∷ levelField second ∷ levelField third ∷ []) ++ ascii "\n") 40 (now (out .entry)) (now (out .exit)) r ⌝ }
+// A result's word after a comma.
+fn put_result_field(out: &mut [u8], number: Number, word: u16) -> usize
+    requires { ⌜ 21 ≤ length (now out) ⌝ }
+    ensures { λ r. ⌜ Wrote (ascii "," ++ resultField number word) 21 (now (out .entry)) (now (out .exit)) r ⌝ }
 {
-    let a = put_level(out, first);
-    let b = a + put_level(&mut out[a..], second);
-    let c = b + put_level(&mut out[b..], third);
+    match number {
+        Number::Level => put_level(out, word),
+        Number::Plain => put_whole(out, word as u32),
+    }
+}
+
+// A result's words of the three profiles, and the line's end.
+pub fn put_cells(out: &mut [u8], number: Number, first: u16, second: u16, third: u16) -> usize
+    requires { ⌜ 64 ≤ length (now out) ⌝ }
+    ensures { λ r. ⌜ Wrote (further (resultField number first ∷ resultField number second ∷ resultField number third ∷ []) ++ ascii "\n") 64 (now (out .entry)) (now (out .exit)) r ⌝ }
+{
+    let a = put_result_field(out, number, first);
+    let b = a + put_result_field(&mut out[a..], number, second);
+    let c = b + put_result_field(&mut out[b..], number, third);
     c + put_byte(&mut out[c..], b'\n')
 }

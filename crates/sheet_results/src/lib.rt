@@ -1,4 +1,4 @@
-// The results that a sheet shows, by model and function: the name, the unit and the place of each.
+// The results that a sheet shows, by model and function: the name, the unit, the kind of number and the place of each.
 use text::put::put_bytes;
 ghost use mathlib.Core.List.{_++_};
 ghost use mathlib.Core.Path.{_≡_};
@@ -6,7 +6,7 @@ ghost use Prim.Native.Nat.{_≤_};
 ghost use lib.ListN.{length};
 ghost use Rattle.text.specs.Text.{Wrote};
 ghost use Rattle.file_models.specs.Models.{columns};
-ghost use Rattle.sheet_results.specs.Results.{nameOf, unitOf, results945, results953, dose953, results};
+ghost use Rattle.sheet_results.specs.Results.{nameOf, unitOf, result, results945, results953, dose953, results};
 
 pub enum ResultName {
     Peak,
@@ -27,13 +27,21 @@ pub enum ResultName {
 
 pub enum UnitName {
     Decibel,
+    Percent,
     Second,
+}
+
+// What a result's words are: tenths with a sign, or whole numbers without one.
+pub enum Number {
+    Level,
+    Plain,
 }
 
 // A row of the results, and the offset of its words in a profile's record.
 pub struct Entry {
     pub name: ResultName,
     pub unit: UnitName,
+    pub number: Number,
     pub offset: u16,
 }
 
@@ -42,106 +50,127 @@ const RESULTS: [Entry; 21] = [
     Entry {
         name: ResultName::Peak,
         unit: UnitName::Decibel,
+        number: Number::Level,
         offset: 3,
     },
     Entry {
         name: ResultName::Max,
         unit: UnitName::Decibel,
+        number: Number::Level,
         offset: 4,
     },
     Entry {
         name: ResultName::Min,
         unit: UnitName::Decibel,
+        number: Number::Level,
         offset: 5,
     },
     Entry {
         name: ResultName::Spl,
         unit: UnitName::Decibel,
+        number: Number::Level,
         offset: 6,
     },
     Entry {
         name: ResultName::Leq,
         unit: UnitName::Decibel,
+        number: Number::Level,
         offset: 7,
     },
     Entry {
         name: ResultName::Sel,
         unit: UnitName::Decibel,
+        number: Number::Level,
         offset: 8,
     },
     Entry {
         name: ResultName::Lex8,
         unit: UnitName::Decibel,
+        number: Number::Level,
         offset: 9,
     },
     Entry {
         name: ResultName::Ltm3,
         unit: UnitName::Decibel,
+        number: Number::Level,
         offset: 10,
     },
     Entry {
         name: ResultName::Ltm5,
         unit: UnitName::Decibel,
+        number: Number::Level,
         offset: 11,
     },
     Entry {
         name: ResultName::N,
-        unit: UnitName::Decibel,
+        unit: UnitName::Percent,
+        number: Number::Plain,
         offset: 12,
     },
     Entry {
         name: ResultName::Ln,
         unit: UnitName::Decibel,
+        number: Number::Level,
         offset: 13,
     },
     Entry {
         name: ResultName::Peak,
         unit: UnitName::Decibel,
+        number: Number::Level,
         offset: 3,
     },
     Entry {
         name: ResultName::Max,
         unit: UnitName::Decibel,
+        number: Number::Level,
         offset: 5,
     },
     Entry {
         name: ResultName::Min,
         unit: UnitName::Decibel,
+        number: Number::Level,
         offset: 6,
     },
     Entry {
         name: ResultName::Spl,
         unit: UnitName::Decibel,
+        number: Number::Level,
         offset: 7,
     },
     Entry {
         name: ResultName::Leq,
         unit: UnitName::Decibel,
+        number: Number::Level,
         offset: 8,
     },
     Entry {
         name: ResultName::Lden,
         unit: UnitName::Decibel,
+        number: Number::Level,
         offset: 9,
     },
     Entry {
         name: ResultName::Ltm3,
         unit: UnitName::Decibel,
+        number: Number::Level,
         offset: 10,
     },
     Entry {
         name: ResultName::Ltm5,
         unit: UnitName::Decibel,
+        number: Number::Level,
         offset: 11,
     },
     Entry {
         name: ResultName::Lav,
         unit: UnitName::Decibel,
+        number: Number::Level,
         offset: 12,
     },
     Entry {
         name: ResultName::Tlav,
         unit: UnitName::Decibel,
+        number: Number::Level,
         offset: 13,
     },
 ];
@@ -174,11 +203,13 @@ pub fn put_unit(out: &mut [u8], unit: UnitName) -> usize
 {
     match unit {
         UnitName::Decibel => put_bytes(out, b"dB"),
+        UnitName::Percent => put_bytes(out, b"%"),
         UnitName::Second => put_bytes(out, b"s"),
     }
 }
 
-// The table whole, so that a caller takes it once for all its rows.
+// The tables one after another, so that a caller takes them once for all its rows: the 945's eleven, and then the 953's ten, of which
+// the last two are the dose meter's.
 pub fn all_results() -> [Entry; 21]
     ensures { λ r. ⌜ r ≡ results945 ++ (results953 ++ dose953) ⌝ }
 {

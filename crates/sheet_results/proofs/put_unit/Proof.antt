@@ -14,5 +14,9 @@ returns-2 : tie.Need-returns-2
 unfolding unitOf
 returns-2 c = let a = c .before .before in told unitOf (a .before .before .before .enum-told2 .given .1) (a .put-bytes2 .ensures) (omega arith)
 
+returns-3 : tie.Need-returns-3
+unfolding unitOf
+returns-3 c = let a = c .before .before in told unitOf (a .before .before .before .enum-told3 .given .1) (a .put-bytes3 .ensures) (omega arith)
+
 pub put-unit-spec : {M : Type 1} → statement M
-put-unit-spec = tie.close (tie.spec (λ c. search needs) (λ c. search needs) (λ c κs. search needs) (λ c. search needs) (λ c. search needs) (λ c κs. search needs) (λ c. search needs) returns (λ c. search needs) returns-2)
+put-unit-spec = tie.close (tie.spec (λ c. search needs) (λ c. search needs) (λ c κs. search needs) (λ c. search needs) (λ c. search needs) (λ c κs. search needs) (λ c. search needs) (λ c. search needs) (λ c κs. search needs) (λ c. search needs) returns (λ c. search needs) returns-2 (λ c. search needs) returns-3)
