@@ -3,8 +3,6 @@
 from blocks import (BANDS, END, HISTOGRAMS, M945, M953, ON, Block, File, file_953, histogram, logger, opening, profiles,
                     spectrum_block, title)
 
-# The first nine of a 945's results are levels; T-02: then come N, which is none, and LN.
-LEVELS_945 = 'PEAK', 'MAX', 'MIN', 'SPL', 'LEQ', 'SEL', 'Lex8', 'Ltm3', 'Ltm5'
 # T-01: the rows of a 953's results by their offsets in a sub-block; a dose meter has two more.
 ROWS_953 = {'PEAK': 3, 'MAX': 5, 'MIN': 6, 'SPL': 7, 'LEQ': 8, 'Lden': 9, 'Ltm3': 10, 'Ltm5': 11}
 DOSE_ROWS = ROWS_953 | {'LAV': 12, 'TLAV': 13}
@@ -25,6 +23,13 @@ def text(lines):
 
 def without_title(file):
     return file.swap('03', title(b'\0\0'))
+
+
+def results_945(times, n, ln):
+    """The lines of a 945's results, the first nine of them 0. T-02: N is a plain number, and LN is a level."""
+    levels = 'PEAK', 'MAX', 'MIN', 'SPL', 'LEQ', 'SEL', 'Lex8', 'Ltm3', 'Ltm5'
+    return ['result,unit,P1 A,P2 C,P3 Lin', f'time,s,{times}', *(f'{name},dB,0.0,0.0,0.0' for name in levels),
+            f'N,%,{n}', f'LN,dB,{ln}']
 
 
 def one_word_records():
@@ -54,8 +59,7 @@ def wide_classes():
     counts = histogram(HISTOGRAMS[0], count).edit({2 * count: 65535, 2 * count + 1: 65535})
     blocks = opening(1, (2, 3, 1), (0, 0, 0), ON, 0)
     blocks += results, statistics, counts, *(histogram(kind, 0) for kind in HISTOGRAMS[1:]), Block('end', (END,))
-    lines = head(1, '') + ['result,unit,P1 A,P2 C,P3 Lin', 'time,s' + ',4294967295' * 3]
-    lines += [f'{name},dB,0.0,0.0,0.0' for name in LEVELS_945] + ['N,%,0,0,0', 'LN,dB,0.0,0.0,0.0', 'profile,from dB,count']
+    lines = head(1, '') + results_945('4294967295,4294967295,4294967295', '0,0,0', '0.0,0.0,0.0') + ['profile,from dB,count']
     lines += [f'P1,{tenths(32767 + i * 65535)},17' for i in range(count - 1)]
     return without_title(File(1, blocks)), lines + [f'P1,{tenths(32767 + (count - 1) * 65535)},4294967295']
 
@@ -65,8 +69,7 @@ def plain_numbers():
     words = 65535, 32768, 0
     results = profiles('07', [{12: word, 13: word} for word in words])
     blocks = opening(1, (2, 3, 1), (0, 0, 0), ON, 0) + (results, Block('end', (END,)))
-    lines = head(1) + ['result,unit,P1 A,P2 C,P3 Lin', 'time,s,0,0,0'] + [f'{name},dB,0.0,0.0,0.0' for name in LEVELS_945]
-    return File(1, blocks), lines + ['N,%,65535,32768,0', 'LN,dB,-0.1,-3276.8,0.0']
+    return File(1, blocks), head(1) + results_945('0,0,0', '65535,32768,0', '-0.1,-3276.8,0.0')
 
 
 def wide_classes_953():

@@ -6,7 +6,7 @@ ghost use Prim.Native.Nat.{_≤_};
 ghost use lib.ListN.{length};
 ghost use Rattle.text.specs.Text.{Wrote};
 ghost use Rattle.file_models.specs.Models.{columns};
-ghost use Rattle.sheet_results.specs.Results.{nameOf, unitOf, result, results945, results953, dose953, results};
+ghost use Rattle.sheet_results.specs.Results.{nameOf, unitOf, results945, results953, dose953, results};
 
 pub enum ResultName {
     Peak,
@@ -208,8 +208,7 @@ pub fn put_unit(out: &mut [u8], unit: UnitName) -> usize
     }
 }
 
-// The tables one after another, so that a caller takes them once for all its rows: the 945's eleven, and then the 953's ten, of which
-// the last two are the dose meter's.
+// The table whole, so that a caller takes it once for all its rows.
 pub fn all_results() -> [Entry; 21]
     ensures { λ r. ⌜ r ≡ results945 ++ (results953 ++ dose953) ⌝ }
 {
