@@ -95,4 +95,4 @@ def write_programs(file3, file8, file9):
     write_run('verdict', file8, f'{checked_file_8().accepted()}\n'.encode('ascii'))
     write_run('title', file3, LABEL, label)
     write_run('slim', file9, file8)
-    write_run('sheet', untitled, SHEET_8.replace(b'Hall', LABEL), label)
+    write_run('sheet', untitled, SHEET_8.replace(b'title=Hall', b'"title=' + LABEL + b'"'), label)

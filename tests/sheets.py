@@ -1,7 +1,7 @@
 """Sheets at the ends of their ranges, each made beside its file: no sheet is computed by reading a file."""
 
-from blocks import (BANDS, END, HISTOGRAMS, M945, M953, ON, Block, File, file_953, histogram, logger, opening, profiles,
-                    spectrum_block, title)
+from blocks import (BANDS, END, HISTOGRAMS, M945, M953, ON, Block, File, file_953, histogram, logger, opening, packed,
+                    profiles, spectrum_block, title)
 
 # T-01: the rows of a 953's results by their offsets in a sub-block; a dose meter has two more.
 ROWS_953 = {'PEAK': 3, 'MAX': 5, 'MIN': 6, 'SPL': 7, 'LEQ': 8, 'Lden': 9, 'Ltm3': 10, 'Ltm5': 11}
@@ -12,9 +12,15 @@ def tenths(n):
     return f'{"-" if n < 0 else ""}{abs(n) // 10}.{abs(n) % 10}'
 
 
-def head(function, shown='Hall', model=M945):
-    return [f'unit={model.unit}', 'number=1234', f'version={model.version}', 'name=FILE1', f'function={function}',
-            f'title={shown}']
+def head_line(key, shown):
+    """T-03: a line whose text holds a comma or a double quote stands between double quotes, those within it doubled."""
+    line = f'{key}={shown}'
+    return '"' + line.replace('"', '""') + '"' if ',' in shown or '"' in shown else line
+
+
+def head(function, shown='Hall', model=M945, name='FILE1'):
+    return [f'unit={model.unit}', 'number=1234', f'version={model.version}', head_line('name', name), f'function={function}',
+            head_line('title', shown)]
 
 
 def text(lines):
@@ -70,6 +76,13 @@ def plain_numbers():
     results = profiles('07', [{12: word, 13: word} for word in words])
     blocks = opening(1, (2, 3, 1), (0, 0, 0), ON, 0) + (results, Block('end', (END,)))
     return File(1, blocks), head(1) + results_945('0,0,0', '65535,32768,0', '-0.1,-3276.8,0.0')
+
+
+def quoted_head(text, shown):
+    """T-03: a name and a title with commas and quotes."""
+    file, lines = plain_numbers()
+    file = file.edit('01', dict(enumerate(packed(b'a,"b",""'), 1))).swap('03', title(text))
+    return file, head(1, shown, name='a,"b",""') + lines[6:]
 
 
 def wide_classes_953():
@@ -146,7 +159,7 @@ def asks():
     yield 'highest class bound', b'', classes, bounds, len(bounds) - 2, 1024
     for size in (506, 507, 508):
         label = bytes(33 + i % 90 for i in range(size))
-        lines = columns[:5] + ['title=' + label.decode('ascii')] + columns[6:]
+        lines = columns[:5] + [head_line('title', label.decode('ascii'))] + columns[6:]
         yield f'label of {size} bytes', label, without_title(heading), lines, 0, 1024
         yield f'label of {size} bytes, output of 1023', label, without_title(heading), lines, 0, 1023
         yield f'label of {size} bytes that is not shown', label, heading, columns, 0, 1024
@@ -158,3 +171,19 @@ def asks():
     file, lines = plain_numbers()
     for n in 0, len(lines) - 2:
         yield f'plain numbers from line {n}', b'', file, lines, n, 1024
+    yield from quoted_asks()
+
+
+def quoted_asks():
+    """T-03: names, titles and labels with commas and quotes; the longest line; and a long line at the end of every output."""
+    for text, shown in (b'say "A"', 'say "A"'), (b'Hall,=1+1', 'Hall,=1+1'), (b'Hall; north=1', 'Hall; north=1'), \
+            (b'\xac\xa2\x0c\x02', '????'), (b',\x7f', ',?'):
+        yield f'title {shown}', b'', *quoted_head(text.ljust(len(text) // 2 * 2 + 2, b'\0'), shown), 3, 1024
+    quotes = '"' * 507
+    file, lines = quoted_head(quotes.encode('ascii') + b'\0', quotes)
+    yield 'title of 507 quotes', b'', file, lines, 5, 1024
+    yield 'label of 507 quotes', quotes.encode('ascii'), without_title(file), lines, 5, 1024
+    shown = ''.join(f'{chr(65 + i)},' + 18 * '"' for i in range(26))[:507]
+    file, lines = quoted_head(shown.encode('ascii') + b'\0', shown)
+    for room in range(1024, 1024 + len(lines[5]) + 2):
+        yield f'a long title and an output of {room} bytes', b'', file, lines, 0, room

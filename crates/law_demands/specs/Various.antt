@@ -2,7 +2,7 @@
 use mathlib.Core.List.{List, [], _∷_, _++_}
 use mathlib.Core.Path.{_≡_}
 use Prim.Native.Nat.{ℕ}
-use lib.ListN.{getD, take, drop, replicate}
+use lib.ListN.{length, getD, take, drop, replicate}
 use denote.Ref.{RefT}
 use Rattle.text.specs.Ascii.{ascii}
 use Rattle.file_walk.specs.Walk.{Part}
@@ -54,6 +54,13 @@ sameParts model = measured (later model 2) 1 [] [] (0 ∷ [])
 unfoldable pub untitledParts : List Part
 untitledParts = take 2 levelParts ++ (alone (0x0203 ∷ (0 ∷ [])) ∷ drop 3 levelParts)
 
+-- the same with the name `a,"b",""` and the title `A,"`
+unfoldable pub quotedParts : List Part
+quotedParts =
+    alone (0x0C01 ∷ (0x2C61 ∷ (0x6222 ∷ (0x2C22 ∷ (0x2222 ∷ replicate 7 0)))))
+    ∷ take 1 (drop 1 levelParts)
+    ++ (alone (0x0303 ∷ (0x2C41 ∷ (0x0022 ∷ []))) ∷ drop 3 levelParts)
+
 -- ---- answers as numbers
 
 -- bytes that are lent, in the memory with this number
@@ -63,6 +70,10 @@ lent memory bytes = record { ptr = (memory, 0); name = 0; now = bytes }
 -- what Title hands back: the number of the memory and the offset in it where it starts, and its bytes
 unfoldable pub handedBack : Seen → List ℕ
 handedBack s = s .0 .0 ∷ (s .0 .1 ∷ s .1)
+
+-- the title line with this label
+unfoldable pub titleLine : List ℕ → List ℕ
+titleLine label = getD (sheetTexts (fileOf untitledParts) label) 5 []
 
 -- Sheet's number and values, with a label of n bytes
 unfoldable pub sheetValues : List ℕ → ℕ → ℕ → ℕ → List ℕ
@@ -93,6 +104,15 @@ facts =
     -- Title: a part of the file, which is memory 1, and not the label; the label, which is memory 2, for a file with an empty title
     ∷ is (handedBack (titleOf (lent 1 (fileOf levelParts)) (lent 2 (ascii "label")))) (1 ∷ (38 ∷ ascii "Hall"))
     ∷ is (handedBack (titleOf (lent 1 (fileOf untitledParts)) (lent 2 (ascii "label")))) (2 ∷ (0 ∷ ascii "label"))
+    -- a comma or a quote: the head line stands between quotes, and Title's bytes are as they were
+    ∷ is (getD (sheetTexts (fileOf quotedParts) []) 3 []) (ascii "\"name=a,\"\"b\"\",\"\"\"\"\"\n")
+    ∷ is (getD (sheetTexts (fileOf quotedParts) []) 5 []) (ascii "\"title=A,\"\"\"\n")
+    ∷ is (handedBack (titleOf (lent 1 (fileOf quotedParts)) (lent 2 []))) (1 ∷ (38 ∷ ascii "A,\""))
+    ∷ is (titleLine (ascii "Hall, north end")) (ascii "\"title=Hall, north end\"\n")
+    ∷ is (titleLine (ascii "say \"A\"")) (ascii "\"title=say \"\"A\"\"\"\n")
+    ∷ is (titleLine (ascii "Hall; north end")) (ascii "title=Hall; north end\n")
+    -- 507 quotes: "1,023 bytes"
+    ∷ is (length (titleLine (replicate 507 0x22)) ∷ []) (1023 ∷ [])
     -- later lines of a sheet
     ∷ is (getD (sheetTexts (fileOf levelParts) []) 0 []) (ascii "unit=945\n")
     ∷ is (getD (sheetTexts (fileOf levelParts) []) 6 []) (ascii "result,unit,P1 A,P2 C,P3 Lin\n")

@@ -1,9 +1,9 @@
 // The lines that are made of numbers alone, as values: one writer for all kinds.
+use sheet_head::put_number;
 use sheet_lines::put_band;
 use sheet_lines::put_band_heading;
 use sheet_lines::put_buffer_heading;
 use sheet_lines::put_class;
-use sheet_lines::put_number;
 use sheet_lines::put_result_heading;
 use sheet_lines::put_span;
 use sheet_lines::put_times;

@@ -1,4 +1,4 @@
--- The laws of rows, and that no line is long and no sheet has too many.
+-- The laws of rows; that no line is long, no sheet has too many, and the head is read as it is meant.
 pub mod RowLaws
 pub mod ShortLaws
 pub mod FieldLengths
@@ -7,3 +7,4 @@ pub mod SmallWords
 pub mod Counts
 pub mod Shortness
 pub mod Fewness
+pub mod HeadReads

@@ -1,3 +1,4 @@
 pub mod Rows
 pub mod Sheet
 pub mod Limits
+pub mod ReadBack

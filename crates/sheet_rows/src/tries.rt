@@ -2,16 +2,19 @@
 // decides, it is made in a scratch array and copied.
 use paging::fit::Tried;
 use paging::fit::try_line;
+use sheet_head::put_entry;
 use sheet_kinds::Line;
 use sheet_kinds::put_line;
-use sheet_lines::put_entry;
 use sheet_lines::put_record;
 use sheet_lines::put_result;
 use sheet_results::Entry;
-ghost use Prim.Native.Nat.{_+_, _-_, _≤_};
+ghost use mathlib.Core.Bool.{false};
+ghost use mathlib.Core.Path.{_≡_};
+ghost use Prim.Native.Nat.{_+_, _-_, _*_, _≤_};
 ghost use lib.ListN.{length};
 ghost use Rattle.words.specs.Words.{wordsOf};
 ghost use Rattle.paging.specs.Fit.{TriedTo};
+ghost use Rattle.sheet_head.specs.Head.{needsQuotes};
 ghost use Rattle.sheet_lines.specs.Line.{bytes};
 ghost use Rattle.sheet_lines.specs.Lines.{textEntry, resultRow, recordRow, cells};
 ghost use Rattle.sheet_kinds.specs.Kinds.{lineOf, Brief};
@@ -29,7 +32,8 @@ pub fn fit_line(out: &mut [u8], line: Line) -> Tried
 }
 
 pub fn fit_entry(out: &mut [u8], key: &[u8], text: &[u8]) -> Tried
-    requires { ⌜ length (now key) + length (now text) ≤ 1000 ⌝ }
+    requires { ⌜ needsQuotes (now key) ≡ false ⌝ }
+    requires { ⌜ length (now key) + 2 * length (now text) + 4 ≤ 1024 ⌝ }
     ensures { λ r. ⌜ TriedTo (bytes (textEntry (now (key .entry)) (now (text .entry)))) (now (out .entry)) (now (out .exit)) r ⌝ }
 {
     if 1024 <= out.len() {

@@ -3,4 +3,5 @@ pub mod DecimalLaws
 pub mod DecimalMeans
 pub mod NameLaws
 pub mod Nulls
+pub mod Pieces
 pub mod Writing

@@ -26,7 +26,7 @@ pub fn put_bytes(out: &mut [u8], src: &[u8]) -> usize
 }
 
 // A byte as it is shown: a question mark for one outside 20 to 7E.
-fn show(b: u8) -> u8
+pub fn show(b: u8) -> u8
     ensures { λ r. ⌜ r ≡ shown b ⌝ }
 {
     if b < 0x20 {
