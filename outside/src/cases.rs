@@ -3,6 +3,7 @@
 use crate::damage::{damaged, junk, too_long};
 use crate::files::{accepted, bytes, lengthen, MOST_WORDS};
 use crate::random::Random;
+use crate::texts::text;
 
 pub struct Case {
     pub file: Vec<u8>,
@@ -44,38 +45,53 @@ fn sound_case(random: &mut Random) -> Case {
 /// A label: mostly short or empty, at times around the longest one.
 pub fn label(random: &mut Random) -> Vec<u8> {
     let len = match random.below(40) {
-        0..=12 => 0,
-        13 => 506,
-        14 => 507,
+        0..=9 => 0,
+        10 => 506,
+        11..=14 => 507,
         15 => 508,
         16 => random.pick(&[509, 600, 1_024, 65_536, 65_540]),
         17 => random.between(100, 507),
         _ => random.between(1, 30),
     };
-    let mut label = random.bytes(len);
-    if random.one_in(2) {
-        label.iter_mut().for_each(|byte| *byte = 0x20 + *byte % 0x5F);
+    // Nulls are bytes of a label like any other.
+    if len > 1_024 || random.one_in(4) {
+        return random.bytes(len);
     }
-    label
+    text(random, len)
 }
 
 /// The first line to ask for, of a sheet with so many lines.
 pub fn line_number(random: &mut Random, lines: usize) -> u32 {
     let lines = lines as u32;
-    match random.below(12) {
+    match random.below(14) {
         0..=5 => 0,
         6 | 7 => random.below(lines as usize + 1) as u32,
         8 => lines.saturating_sub(1),
         9 => lines,
         10 => lines + 1,
+        // In the head, and the title line, which is the last of it.
+        11 => random.between(1, 5) as u32,
+        12 => 5,
         _ => random.pick(&[u32::MAX, 1 << 31, 65_536, lines + 65_536, u32::MAX - lines]),
     }
+}
+
+/// The bytes of these lines up to the end of the title line, 0 if it is not among them.
+fn title_end(lines: &[Vec<u8>]) -> usize {
+    let is_title = |line: &Vec<u8>| line.starts_with(b"title=") || line.starts_with(b"\"title=");
+    let through = lines.iter().take(6).position(is_title).map_or(0, |place| place + 1);
+    lines[..through].iter().map(Vec::len).sum()
 }
 
 /// The length of an output for these lines.
 pub fn sheet_room(random: &mut Random, lines: &[Vec<u8>]) -> usize {
     let total: usize = lines.iter().map(Vec::len).sum();
     let near = |random: &mut Random, len: usize| (len + random.below(3)).saturating_sub(1);
+    // A title line that an output may be too short for: the text has hundreds of quotes.
+    let title_end = title_end(lines);
+    if title_end >= 1_023 && random.one_in(2) {
+        return near(random, title_end);
+    }
     match random.below(16) {
         0 => random.pick(&[0, 1, 2, 512, 1_022]),
         1 => random.below(1_024),

@@ -2,6 +2,7 @@
 
 use crate::buffers::{Lent, Output};
 use crate::cases::{case, label, line_number, nowhere, sheet_room, slim_room};
+use crate::heads::{texts, Text, TITLE_LINE};
 use crate::meter::{CheckReply, Meter, SheetReply, SlimReply, TitleReply};
 use crate::random::Random;
 use crate::reading::{self, Answer, Refusal, TitlePart};
@@ -20,10 +21,11 @@ pub struct Difference {
 /// The lines of a sheet, or the refusal of its file.
 type Lines = Result<Vec<Vec<u8>>, Refusal>;
 
-/// A file and a label, and the copies of them that are lent to the library.
+/// A file and a label, their texts, and the copies of them that are lent to the library.
 struct Subject {
     file: Vec<u8>,
     label: Vec<u8>,
+    texts: Vec<Text>,
     lent_file: Lent,
     lent_label: Lent,
 }
@@ -88,7 +90,8 @@ impl Compare<'_> {
     fn subject(&mut self, file: Vec<u8>, label: Vec<u8>) -> Subject {
         let lent_file = Lent::new(&mut self.random, &file, self.exact);
         let lent_label = Lent::new(&mut self.random, &label, self.exact);
-        Subject { file, label, lent_file, lent_label }
+        let texts = texts(&file, &label);
+        Subject { file, label, texts, lent_file, lent_label }
     }
 
     /// All four calls.
@@ -103,7 +106,12 @@ impl Compare<'_> {
             let room = sheet_room(&mut self.random, &known[from..]);
             self.sheet(subject, &lines, n, room)?;
         }
-        let share = if known.len() > 1_000 { 20 } else { 6 };
+        // Many lines take long; a long title line may be the first of a later answer.
+        let share = match known.get(TITLE_LINE).map_or(0, Vec::len) {
+            _ if known.len() > 1_000 => 20,
+            1_000.. => 2,
+            _ => 4,
+        };
         if lines.is_ok() && subject.label.len() <= 507 && self.random.one_in(share) {
             self.walk(subject, &lines)?;
         }
@@ -142,7 +150,7 @@ impl Compare<'_> {
     /// One call of Sheet; hands back what the reading has.
     fn sheet(&mut self, subject: &Subject, lines: &Lines, n: u32, room: usize) -> Result<Option<Answer>, Difference> {
         let answer = reading::answer(lines, subject.label.len(), n, room);
-        self.tally.sheet(lines.as_deref().unwrap_or_default(), n, &answer);
+        self.tally.sheet(&subject.texts, lines.as_deref().unwrap_or_default(), n, room, &answer);
         let (due, written) = sheet_reply(&answer);
         let mut output = Output::new(&mut self.random, room, self.exact);
         self.tally.calls += 1;
@@ -174,7 +182,7 @@ impl Compare<'_> {
                 break;
             }
         }
-        self.tally.walk(known);
+        self.tally.walk(&subject.texts, known);
         subject.same_bytes("sheet, walked", &joined, &whole)
     }
 
@@ -215,7 +223,7 @@ impl Compare<'_> {
         longer.same("slim, additions", second, first)?;
         longer.same("slim, additions", first.refusal, 0)?;
         longer.same_bytes("slim, additions", &second_bytes, &first_bytes)?;
-        self.tally.addition(&subject.file, &lines);
+        self.tally.addition(&subject.file, &subject.texts, &lines);
         Ok(())
     }
 

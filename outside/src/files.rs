@@ -2,6 +2,7 @@
 
 use crate::check::{first_band, least, least_sub, Model, LISTED, LOWEST};
 use crate::random::Random;
+use crate::texts::text;
 
 /// "A meter file is 16-bit words, 32,768 at most".
 pub const MOST_WORDS: usize = 32_768;
@@ -214,17 +215,6 @@ fn any_percentage(random: &mut Random) -> u16 {
     }
 }
 
-/// Text without nulls: of any bytes or of letters.
-fn text(random: &mut Random, len: usize) -> Vec<u8> {
-    let wild = random.one_in(3);
-    let mut byte = |_| match wild {
-        true if random.one_in(3) => random.pick(&[0x01, 0x0A, 0x1F, 0x20, 0x7E, 0x7F, 0x80, 0xFF, b',', b'?']),
-        true => random.between(1, 255) as u8,
-        false => random.between(0x20, 0x7E) as u8,
-    };
-    (0..len).map(&mut byte).collect()
-}
-
 fn words_of(bytes: &[u8]) -> Vec<u16> {
     bytes.chunks_exact(2).map(|pair| u16::from_le_bytes([pair[0], pair[1]])).collect()
 }
@@ -234,8 +224,11 @@ fn file_header(random: &mut Random) -> Vec<u16> {
     let mut name = text(random, len);
     if len < 8 {
         name.push(0);
-        let tail = if random.one_in(2) { vec![0; 7 - len] } else { random.bytes(7 - len) };
-        name.extend(tail);
+        name.extend(match random.below(4) {
+            0 | 1 => vec![0; 7 - len],
+            2 => random.bytes(7 - len),
+            _ => text(random, 7 - len),
+        });
     }
     let mut words = vec![header(0x01, 12)];
     words.extend(words_of(&name));
@@ -257,16 +250,17 @@ fn unit(random: &mut Random, model: Model) -> Vec<u16> {
 /// A title: its text, a null, and a byte to fill the word, mostly a second null.
 fn title_block(random: &mut Random) -> Vec<u16> {
     let len = match random.below(40) {
-        0 => random.pick(&[505, 506, 507]),
-        1 => random.between(100, 507),
-        2..=9 => 0,
-        10..=14 => random.between(1, 3),
+        0 | 1 => random.pick(&[505, 506, 507, 507]),
+        2 => random.between(100, 507),
+        3..=13 => 0,
+        14..=18 => random.between(1, 3),
         _ => random.between(1, 40),
     };
     let mut bytes = text(random, len);
     bytes.push(0);
     if bytes.len() % 2 == 1 {
-        bytes.push(if random.one_in(3) { random.byte() } else { 0 });
+        let any = random.byte();
+        bytes.push(random.pick(&[0, 0, 0, 0, any, b',', b'"']));
     }
     let mut words = vec![header(0x03, 1 + bytes.len() / 2)];
     words.extend(words_of(&bytes));

@@ -6,6 +6,7 @@ mod check;
 mod compare;
 mod damage;
 mod files;
+mod heads;
 mod meter;
 mod notes;
 mod random;
@@ -15,6 +16,7 @@ mod slim;
 mod tally;
 #[cfg(test)]
 mod tests;
+mod texts;
 mod title;
 
 use compare::{compare_file, Difference};

@@ -58,8 +58,8 @@ const OTHERS: [&str; 27] = [
     "953, lowest frequency of 1000 Hz or more, cut to a word: 8",
 ];
 
-/// The comparisons that may hold the row N of a 945. The last one is of the library with itself.
-const N_CALLS: [&str; 4] = ["sheet", "sheet, from a later line", "sheet, walked", "sheet, additions"];
+/// The comparisons of lines. The last one is of the library with itself.
+pub const CALLS: [&str; 4] = ["sheet", "sheet, from a later line", "sheet, walked", "sheet, additions"];
 
 /// What the three numbers of a row N may be, so that another reading of the row shows.
 type Numbers = (&'static str, fn(&[u16]) -> bool);
@@ -78,7 +78,7 @@ pub fn due() -> Vec<String> {
     due.extend((0..=3).map(totals_name));
     due.extend(UNLISTED.map(unlisted_name));
     due.extend(VALUES.map(|(model, cause, value)| value_name(model, cause, value)));
-    due.extend(N_ROWS.iter().flat_map(|(numbers, _)| N_CALLS.map(|call| n_name(numbers, call))));
+    due.extend(N_ROWS.iter().flat_map(|(numbers, _)| CALLS.map(|call| n_name(numbers, call))));
     due
 }
 

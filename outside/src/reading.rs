@@ -1,4 +1,4 @@
-//! The four calls as document 01 and requests T-01 and T-02 of document 02 have them, in plain Rust, written from the documents alone.
+//! The four calls as document 01 and requests T-01 to T-03 of document 02 have them, in plain Rust, written from the documents alone.
 
 pub use crate::check::{check, Refusal, ABSENT};
 pub use crate::sheet::{answer, lines, Answer};

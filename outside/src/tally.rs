@@ -1,9 +1,11 @@
 //! The figures of a run, and the list of what a long run must have met.
 
 use crate::check::{read, Model, Reading};
+use crate::heads::{self, Text};
 use crate::notes;
 use crate::reading::{Answer, Refusal};
 use std::collections::BTreeMap;
+use std::ops::Range;
 
 /// A refusal as the figures count it: number, model if it was known, place, cause.
 pub type Fault = (u8, Option<Model>, &'static str, &'static str);
@@ -97,17 +99,23 @@ impl Tally {
     }
 
     /// Counts a file whose additions were compared with it, and the lines of both.
-    pub fn addition(&mut self, file: &[u8], lines: &[Vec<u8>]) {
+    pub fn addition(&mut self, file: &[u8], texts: &[Text], lines: &[Vec<u8>]) {
         if let Ok(reading) = read(file) {
             *self.additions.entry(kind(&reading)).or_default() += 1;
         }
-        self.note(notes::compared("sheet, additions", lines));
+        self.compared("sheet, additions", texts, lines, 0..lines.len());
     }
 
     /// Counts a sheet that was walked, of these lines.
-    pub fn walk(&mut self, lines: &[Vec<u8>]) {
+    pub fn walk(&mut self, texts: &[Text], lines: &[Vec<u8>]) {
         self.walked += 1;
-        self.note(notes::compared("sheet, walked", lines));
+        self.compared("sheet, walked", texts, lines, 0..lines.len());
+    }
+
+    /// Counts what these lines of a sheet show.
+    fn compared(&mut self, call: &str, texts: &[Text], lines: &[Vec<u8>], shown: Range<usize>) {
+        self.note(notes::compared(call, &lines[shown.clone()]));
+        self.note(heads::compared(call, texts, shown));
     }
 
     fn refusal(&mut self, refusal: &Refusal) {
@@ -118,8 +126,8 @@ impl Tally {
         *self.answers.entry(name).or_default() += 1;
     }
 
-    /// Counts an answer of Sheet; refusals of the file are counted with the file.
-    pub fn sheet(&mut self, lines: &[Vec<u8>], n: u32, answer: &Result<Answer, Refusal>) {
+    /// Counts an answer of Sheet to an output of `room` bytes; refusals of the file are counted with the file.
+    pub fn sheet(&mut self, texts: &[Text], lines: &[Vec<u8>], n: u32, room: usize, answer: &Result<Answer, Refusal>) {
         let first = n as usize;
         match answer {
             Ok(_) if first >= lines.len() => self.answer("sheet finished, no lines left"),
@@ -131,7 +139,8 @@ impl Tally {
                     (false, _) => "sheet cut by the output, from a later line",
                 });
                 let call = if n == 0 { "sheet" } else { "sheet, from a later line" };
-                self.note(notes::compared(call, &lines[first..first + answer.lines as usize]));
+                self.compared(call, texts, lines, first..first + answer.lines as usize);
+                self.note(heads::edges(texts, lines, first, room));
             }
             Err(refusal) if refusal.number >= 10 => self.refusal(refusal),
             Err(_) => {}
@@ -245,7 +254,7 @@ impl Tally {
                 need(format!("refusal {number} of a 953 at {place}, {cause}"), found, 10);
             }
         }
-        for name in notes::due() {
+        for name in notes::due().into_iter().chain(heads::due()) {
             let found = self.notes.get(&name).copied().unwrap_or(0);
             need(name, found, 10);
         }

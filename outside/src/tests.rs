@@ -1,4 +1,5 @@
-//! The reading on the checked files of document 01, on files of the 953 and on the row N, its printers, and the generator.
+//! The reading on the checked files of document 01, on files of the 953, on the row N and on texts with commas and quotes, its printers,
+//! and the generator.
 
 use crate::check::{check, first_band, least, Model, Refusal, ABSENT, LOWEST};
 use crate::files::{accepted, bytes, lengthen, MOST_WORDS};
@@ -206,6 +207,70 @@ fn the_row_n() {
     assert_eq!(rows, format!("{levels}N,%,0,10,32768\nLN,dB,0.0,1.0,-0.5\n"));
     let rows = results_945([65_535, 9, 32_767], [32_768, 65_535, 32_767]);
     assert_eq!(rows, format!("{levels}N,%,65535,9,32767\nLN,dB,-3276.8,-0.1,3276.7\n"));
+}
+
+/// Checked file 8 with this name of at most 8 bytes and this title.
+fn file_with_texts(name: &[u8], title: &[u8]) -> Vec<u8> {
+    let mut file = bytes(&file_8());
+    file[2..10].fill(0);
+    file[2..2 + name.len()].copy_from_slice(name);
+    // One or two nulls fill the last word.
+    let mut title_block = [&[0x03, 0][..], title, &[0, 0]].concat();
+    title_block.truncate(title_block.len() / 2 * 2);
+    title_block[1] = (title_block.len() / 2) as u8;
+    file.splice(36..44, title_block);
+    file
+}
+
+/// The lines of the name and of the title, without their ends.
+fn text_lines(name: &[u8], title: &[u8], label: &[u8]) -> [String; 2] {
+    let lines = lines(&file_with_texts(name, title), label).expect("an accepted file");
+    [3, 5].map(|line| String::from_utf8_lossy(&lines[line]).trim_end_matches('\n').to_string())
+}
+
+/// "a head line whose text holds a comma or a double quote is put as a whole between double quotes, quotes within it doubled" (T-03)
+#[test]
+fn commas_and_quotes_in_texts() {
+    assert_eq!(file_with_texts(b"BUFF1", b"Hall"), bytes(&file_8()));
+    let title_line = |title: &[u8]| {
+        let of_label = text_lines(b"BUFF1", b"", title);
+        assert_eq!(text_lines(b"BUFF1", title, b"a,\"b"), of_label);
+        assert_eq!(of_label[0], "name=BUFF1");
+        of_label[1].clone()
+    };
+    assert_eq!(title_line(b"Hall, north end"), r#""title=Hall, north end""#);
+    assert_eq!(title_line(b"say \"A\""), r#""title=say ""A""""#);
+    assert_eq!(title_line(b"Hall,=1+1"), r#""title=Hall,=1+1""#);
+    assert_eq!(title_line(b"\""), r#""title=""""#);
+    assert_eq!(title_line(b","), r#""title=,""#);
+    // Other separators and quotes do not count, nor do bytes that print as `?`.
+    assert_eq!(title_line(b"Hall; 'north' end"), "title=Hall; 'north' end");
+    assert_eq!(title_line(b"\xAC\xA2\x0C\x02\r\n"), "title=??????");
+    assert_eq!(title_line(b"\xAC,\x02\"\n"), r#""title=?,?""?""#);
+    assert_eq!(text_lines(b"a,\"b\",\"\"", b"Hall", b""), [r#""name=a,""b"",""""""#, "title=Hall"]);
+    assert_eq!(text_lines(b"1;2", b"", b"a\0,b"), ["name=1;2", r#""title=a?,b""#]);
+    // What stands behind the null is not shown.
+    assert_eq!(text_lines(b"A\0,\"\"\"\",", b"B\0,\"", b""), ["name=A", "title=B"]);
+}
+
+/// "507 quotes give 1,023 bytes" (T-03), from the file and from the label.
+#[test]
+fn the_longest_line() {
+    let quotes = [b'"'; 507];
+    for (in_file, label) in [(&quotes[..], &b""[..]), (&b""[..], &quotes[..])] {
+        let file = file_with_texts(b"BUFF1", in_file);
+        let line = [&b"\"title="[..], &[b'"'; 1_014], b"\"\n"].concat();
+        assert_eq!(line.len(), 1_023);
+        let answer = |n, out_len| sheet(&file, label, n, out_len).expect("an answer");
+        // The five lines before it have 55 bytes.
+        assert_eq!([answer(0, 1_024).lines, answer(0, 1_077).lines, answer(0, 1_078).lines], [5, 5, 6]);
+        assert!(answer(0, 1_078).bytes.ends_with(&line));
+        assert_eq!(answer(5, 1_024), Answer { lines: 1, bytes: line, finished: false });
+        // Title and Slim hand on the bytes as they are.
+        let part = if label.is_empty() { TitlePart::File { at: 38, len: 507 } } else { TitlePart::Label { len: 507 } };
+        assert_eq!(title(&file, label), part);
+        assert_eq!(copy(&file), Ok(file));
+    }
 }
 
 /// The words of a 953's 04: the function, and the words at offsets.
