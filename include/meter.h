@@ -72,7 +72,8 @@ meter_title_reply meter_title(const uint8_t *file, size_t file_len, const uint8_
 
 /*
  * Writes lines n, n + 1, .. of the sheet, as many whole ones as fit. The first call asks from line 0 on, the next from n + lines on,
- * until one is finished.
+ * until one is finished. A head line whose text holds a comma or a double quote stands between double quotes, those within it doubled,
+ * as RFC 4180 has it; such a line has 1,023 bytes at most.
  */
 meter_sheet_reply meter_sheet(const uint8_t *file, size_t file_len, const uint8_t *label, size_t label_len, uint32_t n, uint8_t *out, size_t out_len);
 

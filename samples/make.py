@@ -253,7 +253,7 @@ def files():
         'hall-05': log,  # cut off in main
         'pump-01': result(shut, 'PUMP01', 'Pump room, door shut', 3, 120, 5, LIN),
         'pump-02': result(PUMP, 'PUMP02', 'Pump room, door open', 3, 120, 16, C, pump),
-        'pump-03': buffer(PUMP, 'BUFF2', 'Pump room, pump 2 only', 3, (0, RMS, 0), 6, 7, LIN, ON, (10, 0)),
+        'pump-03': buffer(PUMP, 'BUFF2', 'Pump room, "pump 2" only', 3, (0, RMS, 0), 6, 7, LIN, ON, (10, 0)),
         'road-01': result(ROAD, 'ROAD01', 'Mill Road, kerb', 2, 300, 8, LIN),
         'road-02': result(window, 'ROAD02', 'Mill Road, first floor window', 2, 300, 9, A, road),
         'road-03': buffer(ROAD, 'BUFF3', 'Mill Road, kerb', 2, (0, 0, PEAK), 15, 10, LIN, ON),

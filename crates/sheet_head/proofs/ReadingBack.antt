@@ -1,65 +1,28 @@
 -- A head line, read as a record of one field, is its key, `=` and its text; and it stands between quotes only where that text would not
 -- be read so without them.
-use mathlib.Core.Bool.{Bool, true, false, cond, _&&_, _||_, true≢false}
+use mathlib.Core.Bool.{Bool, true, false, cond, _||_, true≢false}
 use mathlib.Core.List.{List, [], _∷_, _++_, append-assoc, map, flatMap}
 use mathlib.Core.Option.{none, some, Option·some-ne-none}
 use mathlib.Core.Path.{_≡_, refl, sym, ap, _∙_}
-use Prim.Native.Nat.{ℕ, suc, _+_, _≤_, _<_, suc-le-suc}
+use Prim.Native.Nat.{ℕ, _≤_, _<_}
 use native.Mathlib.Nat.{not-suc-le-zero}
 use native.Mathlib.Omega.{arith}
-use borrow.Author.Tests.{leb-true, leb-false, le-leb, ltb-true, ltb-false, eqb-true, eqb-false, eq-eqb, ne-eqb}
-use lib.Dec.{eqb, leb, ltb}
+use borrow.Author.Tests.{eqb-true, eqb-false}
+use lib.Dec.{eqb}
 use lib.ListN.{length, length-append}
-use Rattle.words.proofs.Choice.{and-both, or-neither}
+use Rattle.words.proofs.Choice.{or-neither}
 use Rattle.text.specs.Ascii.{ascii}
 use Rattle.text.specs.Decimal.{decimal}
 use Rattle.text.specs.Text.{shown}
-use Rattle.text.proofs.DecimalMeans.{Digits, decimal-digits}
-use Rattle.sheet_head.specs.Head.{headText, comma, quote, needsQuotes, within, doubled, quoted, headLine}
-use Rattle.sheet_head.specs.Rfc4180.{isTextData, ended, after, nonEscaped, escaped, oneField, ReadBack}
-use Rattle.sheet_head.proofs.HeadLaws.{without}
-
--- ---- bytes that are shown
-
-abbrev Printable : List ℕ → Type 0
-Printable [] = Unit {0}
-Printable (b ∷ bs) = ((0x20 ≤ b) × (b ≤ 0x7E)) × Printable bs
-
-shown-byte : (b : ℕ) → (0x20 ≤ shown b) × (shown b ≤ 0x7E)
-shown-byte b = go (ltb b 0x20) (ltb 0x7E b) refl refl
-  where
-    go : (s t : Bool) → ltb b 0x20 ≡ s → ltb 0x7E b ≡ t → (0x20 ≤ cond s 63 (cond t 63 b)) × (cond s 63 (cond t 63 b) ≤ 0x7E)
-    go true t p q = (omega arith, omega arith)
-    go false true p q = (omega arith, omega arith)
-    go false false p q = (ltb-false b 0x20 p, ltb-false 0x7E b q)
-
-shown-printable : (text : List ℕ) → Printable (map shown text)
-shown-printable [] = tt
-shown-printable (b ∷ bs) = (shown-byte b, shown-printable bs)
-
-digits-printable : (l : List ℕ) → Digits l → Printable l
-digits-printable [] d = tt
-digits-printable (b ∷ l) d =
-    let first = d 0 (omega arith) in
-    ((omega arith, omega arith), digits-printable l (λ i h. d (suc i) (suc-le-suc h)))
-
-printable-both : (a b : List ℕ) → Printable a → Printable b → Printable (a ++ b)
-printable-both [] b p q = q
-printable-both (x ∷ a) b p q = (p .0, printable-both a b (p .1) q)
-
--- one that is no comma and no quote is TEXTDATA
-data-byte : (b : ℕ) → 0x20 ≤ b → b ≤ 0x7E → (b ≡ comma → ⊥) → (b ≡ quote → ⊥) → isTextData b ≡ true
-data-byte b h k p q = go (leb b 0x21) (leb b 0x2B) refl refl
-  where
-    go : (s t : Bool) → leb b 0x21 ≡ s → leb b 0x2B ≡ t → ((leb 0x20 b && s) || ((leb 0x23 b && t) || (leb 0x2D b && leb b 0x7E))) ≡ true
-    go true t e f = rw (le-leb 0x20 b h)
-    go false true e f = rw (le-leb 0x20 b h, le-leb 0x23 b (omega (arith, leb-false b 0x21 e, q)))
-    go false false e f = rw (le-leb 0x20 b h, le-leb 0x23 b (omega (arith, leb-false b 0x2B f)), le-leb 0x2D b (omega (arith, leb-false b 0x2B f, p)), le-leb b 0x7E k)
+use Rattle.text.proofs.DecimalMeans.{decimal-digits}
+use Rattle.sheet_head.specs.Head.{headText, comma, quote, needsQuotes, doubled, quoted, headLine}
+use Rattle.sheet_head.specs.Rfc4180.{isTextData, ended, preceded, nonEscaped, escaped, oneField, ReadBack}
+use Rattle.sheet_head.proofs.Printable.{Printable, shown-printable, digits-printable, printable-both, isPrintable, tested, data-byte}
 
 -- ---- a text without quotes
 
 plain-reads : (text : List ℕ) → Printable text → needsQuotes text ≡ false → nonEscaped (text ++ ascii "\n") ≡ some text
-unfolding needsQuotes nonEscaped ended after
+unfolding needsQuotes nonEscaped ended preceded
 plain-reads [] p e = refl
 plain-reads (b ∷ bs) p e =
     let at = or-neither (eqb b comma) _ e in
@@ -74,7 +37,7 @@ ended-none b (c ∷ l) h = refl
 
 -- a text that holds a comma or a quote is not read without quotes
 plain-none : (text : List ℕ) → needsQuotes text ≡ true → nonEscaped (text ++ ascii "\n") ≡ none
-unfolding needsQuotes nonEscaped after
+unfolding needsQuotes nonEscaped preceded
 plain-none [] e = absurd (true≢false (sym e))
 plain-none (b ∷ bs) e = go (eqb b comma) (eqb b quote) (isTextData b) refl refl refl e (plain-none bs)
   where
@@ -82,7 +45,7 @@ plain-none (b ∷ bs) e = go (eqb b comma) (eqb b quote) (isTextData b) refl ref
     some-left = rw length-append (omega arith)
 
     go : (s t d : Bool) → eqb b comma ≡ s → eqb b quote ≡ t → isTextData b ≡ d → (s || (t || needsQuotes bs)) ≡ true
-        → (needsQuotes bs ≡ true → nonEscaped (bs ++ ascii "\n") ≡ none) → cond d (after b (nonEscaped (bs ++ ascii "\n"))) (ended (b ∷ (bs ++ ascii "\n"))) ≡ none
+        → (needsQuotes bs ≡ true → nonEscaped (bs ++ ascii "\n") ≡ none) → cond d (preceded b (nonEscaped (bs ++ ascii "\n"))) (ended (b ∷ (bs ++ ascii "\n"))) ≡ none
     go s t false p q r e more = ended-none b (bs ++ ascii "\n") some-left
     go true t true p q r e more = absurd (true≢false (sym r ∙ ap isTextData (eqb-true b comma p)))
     go false true true p q r e more = absurd (true≢false (sym r ∙ ap isTextData (eqb-true b quote q)))
@@ -90,17 +53,17 @@ plain-none (b ∷ bs) e = go (eqb b comma) (eqb b quote) (isTextData b) refl ref
 
 -- ---- a text between quotes
 
-within-byte : (b : ℕ) (l : List ℕ) → 0x20 ≤ b → b ≤ 0x7E → eqb b quote ≡ false → 0 < length l → escaped (b ∷ l) ≡ after b (escaped l)
+within-byte : (b : ℕ) (l : List ℕ) → 0x20 ≤ b → b ≤ 0x7E → eqb b quote ≡ false → 0 < length l → escaped (b ∷ l) ≡ preceded b (escaped l)
 unfolding escaped
 within-byte b [] h k q s = absurd (not-suc-le-zero s)
 within-byte b (c ∷ l) h k q s = rw q (go (eqb b comma) refl)
   where
-    go : (t : Bool) → eqb b comma ≡ t → cond (isTextData b || (t || (eqb b 0x0D || eqb b 0x0A))) (after b (escaped (c ∷ l))) none ≡ after b (escaped (c ∷ l))
+    go : (t : Bool) → eqb b comma ≡ t → cond (isTextData b || (t || (eqb b 0x0D || eqb b 0x0A))) (preceded b (escaped (c ∷ l))) none ≡ preceded b (escaped (c ∷ l))
     go true e = rw (eqb-true b comma e)
     go false e = rw (data-byte b h k (eqb-false b comma e) (eqb-false b quote q))
 
 quoted-reads : (text : List ℕ) → Printable text → escaped (doubled text ++ (quote ∷ ascii "\n")) ≡ some text
-unfolding flatMap escaped after ended
+unfolding flatMap escaped preceded ended
 quoted-reads [] p = refl
 quoted-reads (b ∷ bs) p = go (eqb b quote) refl (quoted-reads bs (p .1))
   where
@@ -109,7 +72,7 @@ quoted-reads (b ∷ bs) p = go (eqb b quote) refl (quoted-reads bs (p .1))
 
     go : (t : Bool) → eqb b quote ≡ t → escaped left ≡ some bs → escaped (cond t (quote ∷ (quote ∷ [])) (b ∷ []) ++ doubled bs ++ (quote ∷ ascii "\n")) ≡ some (b ∷ bs)
     go true e more = rw (eqb-true b quote e, more)
-    go false e more = within-byte b left (p .0 .0) (p .0 .1) e (rw length-append (omega arith)) ∙ ap (after b) more
+    go false e more = within-byte b left (p .0 .0) (p .0 .1) e (rw length-append (omega arith)) ∙ ap (preceded b) more
 
 -- ---- head lines
 
@@ -122,19 +85,6 @@ needs-both (x ∷ a) b = go (eqb x comma) (eqb x quote) (needs-both a b)
     go true t e = refl
     go false true e = refl
     go false false e = e
-
--- a test of `Printable`, for keys
-unfoldable pub isPrintable : List ℕ → Bool
-isPrintable [] = true
-isPrintable (b ∷ bs) = (leb 0x20 b && leb b 0x7E) && isPrintable bs
-
-tested : (l : List ℕ) → isPrintable l ≡ true → Printable l
-unfolding isPrintable
-tested [] e = tt
-tested (b ∷ bs) e =
-    let h = and-both _ (isPrintable bs) e in
-    let k = and-both (leb 0x20 b) (leb b 0x7E) (h .0) in
-    ((leb-true 0x20 b (k .0), leb-true b 0x7E (k .1)), tested bs (h .1))
 
 -- a key does not begin with a quote
 by-key : (key text : List ℕ) → needsQuotes key ≡ false → oneField (headText key text ++ ascii "\n") ≡ nonEscaped (headText key text ++ ascii "\n")

@@ -9,28 +9,28 @@ use lib.Dec.{eqb, leb}
 use Rattle.text.specs.Ascii.{ascii}
 use Rattle.sheet_head.specs.Head.{comma, quote}
 
--- "TEXTDATA = %x20-21 / %x23-2B / %x2D-7E"
 abbrev pub isBetween : ℕ → ℕ → ℕ → Bool
 isBetween from to b = leb from b && leb b to
 
+-- "TEXTDATA = %x20-21 / %x23-2B / %x2D-7E"
 abbrev pub isTextData : ℕ → Bool
 isTextData b = isBetween 0x20 0x21 b || (isBetween 0x23 0x2B b || isBetween 0x2D 0x7E b)
 
--- the end of the record, with no further byte: no byte of the field is left
+-- the end of the record, and no byte after it: nothing is left of the field
 unfoldable pub ended : List ℕ → Option (List ℕ)
 ended [] = none
 ended (b ∷ []) = cond (eqb b 0x0A) (some []) none
 ended (b ∷ (c ∷ bs)) = none
 
--- a byte of the field, and those after it
-unfoldable pub after : ℕ → Option (List ℕ) → Option (List ℕ)
-after b none = none
-after b (some bs) = some (b ∷ bs)
+-- the bytes of the field, this one before the others
+unfoldable pub preceded : ℕ → Option (List ℕ) → Option (List ℕ)
+preceded b none = none
+preceded b (some bs) = some (b ∷ bs)
 
 -- "non-escaped = *TEXTDATA"
 unfoldable pub nonEscaped : List ℕ → Option (List ℕ)
 nonEscaped [] = none
-nonEscaped (b ∷ bs) = cond (isTextData b) (after b (nonEscaped bs)) (ended (b ∷ bs))
+nonEscaped (b ∷ bs) = cond (isTextData b) (preceded b (nonEscaped bs)) (ended (b ∷ bs))
 
 -- "escaped = DQUOTE *(TEXTDATA / COMMA / CR / LF / 2DQUOTE) DQUOTE", after its first DQUOTE
 unfoldable pub escaped : List ℕ → Option (List ℕ)
@@ -38,8 +38,8 @@ escaped [] = none
 escaped (b ∷ []) = none
 escaped (b ∷ (c ∷ bs)) =
     cond (eqb b quote)
-    (cond (eqb c quote) (after quote (escaped bs)) (ended (c ∷ bs)))
-    (cond (isTextData b || (eqb b comma || (eqb b 0x0D || eqb b 0x0A))) (after b (escaped (c ∷ bs))) none)
+    (cond (eqb c quote) (preceded quote (escaped bs)) (ended (c ∷ bs)))
+    (cond (isTextData b || (eqb b comma || (eqb b 0x0D || eqb b 0x0A))) (preceded b (escaped (c ∷ bs))) none)
 
 -- "field = (escaped / non-escaped)": the text of a record's one field; none where the bytes are no such record
 unfoldable pub oneField : List ℕ → Option (List ℕ)

@@ -5,7 +5,8 @@ use Prim.Native.Nat.{ℕ}
 use Rattle.text.specs.Ascii.{ascii}
 use Rattle.file_rules.specs.Slim.{Slim}
 use Rattle.sheet_head.specs.Head.{needsQuotes}
-use Rattle.sheet_head.proofs.ReadingBack.{isPrintable, number-reads, text-reads}
+use Rattle.sheet_head.proofs.Printable.{isPrintable}
+use Rattle.sheet_head.proofs.ReadingBack.{number-reads, text-reads}
 use Rattle.sheet_lines.specs.Line.{bytes}
 use Rattle.sheet_lines.specs.Lines.{numberEntry, textEntry}
 use Rattle.sheet_page.specs.ReadBack.{AllReadBack, none, _and_}

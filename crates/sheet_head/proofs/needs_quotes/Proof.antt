@@ -5,7 +5,7 @@ use native.Mathlib.Omega.{arith}
 use borrow.Author.Needs.{needs}
 use lib.ListN.{length, drop}
 use Rattle.sheet_head.specs.Head.{needsQuotes}
-use Rattle.sheet_head.proofs.HeadLaws.{shown-needs, comma-needs, quote-needs, neither-needs, end-needs}
+use Rattle.sheet_head.proofs.NeedLaws.{shown-needs, comma-needs, quote-needs, neither-needs, end-needs}
 use Rattle.sheet_head.proofs.needs_quotes.Statement.{statement}
 use Rattle.sheet_head.proofs.needs_quotes.Tie as tie
 

@@ -1,4 +1,3 @@
--- `put_key` meets its contract. Assumes nothing.
 use borrow.Author.Needs.{needs}
 use Rattle.text.proofs.Writing.{_then_}
 use Rattle.sheet_head.proofs.put_key.Statement.{statement}
