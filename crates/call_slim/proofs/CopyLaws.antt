@@ -8,6 +8,7 @@ use lib.ListN.{length, getD, take, drop, length-append, length-drop}
 use lib.Seq.{length-take-le}
 use Rattle.words.specs.Words.{low, wordsOf, Holds}
 use Rattle.words.proofs.WordLaws.{Below, words-below}
+use Rattle.text.proofs.Pieces.{flat-append}
 use Rattle.file_walk.specs.declared.Cursor.{Cursor}
 use Rattle.file_walk.specs.declared.Stop.the-variants.{End, Refused}
 use Rattle.file_walk.specs.declared.Step.{Step}
@@ -72,15 +73,10 @@ module _ (s : Setup) (p : Part) where
       ap (λ (t : Bool). flatMap wordsIn (cond t (slimOf s (p .words) (p .raw) ∷ []) [])) (sym (row-listed s (getD (p .words) 0 0)) ∙ l) ∙ append-nil _
       ∙ slim-raw (rowFor s (getD (p .words) 0 0)) (p .words) (p .raw)
 
-flat-append : (xs ys : List Slim) → flatMap wordsIn (xs ++ ys) ≡ flatMap wordsIn xs ++ flatMap wordsIn ys
-unfolding flatMap
-flat-append [] ys = refl
-flat-append (x ∷ xs) ys = ap (λ (l : List ℕ). wordsIn x ++ l) (flat-append xs ys) ∙ sym (append-assoc (wordsIn x) (flatMap wordsIn xs) (flatMap wordsIn ys))
-
 -- what is left to write: the block's words, and then what is left after it
 pub words-split : (s : Setup) (p : Part) (more : List Slim) → slimWords (slimPart s p ++ more) ≡ partWords s p ++ slimWords more
 unfolding slimWords partWords
-words-split s p more = rw (flat-append (slimPart s p) more, append-assoc)
+words-split s p more = rw (flat-append wordsIn (slimPart s p) more, append-assoc)
 
 pub words-end : slimWords [] ≡ endMarker ∷ []
 unfolding slimWords flatMap

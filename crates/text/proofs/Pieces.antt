@@ -14,19 +14,15 @@ use lib.Seq.{take-suc, take-all}
 use Rattle.text.specs.Text.{Wrote}
 use Rattle.text.proofs.Writing.{nothing, _then_, text-is, at-most, same-room}
 
-module _ (f : ℕ → List ℕ) where
-  pub flat-append : (xs ys : List ℕ) → flatMap f (xs ++ ys) ≡ flatMap f xs ++ flatMap f ys
-  unfolding flatMap
-  flat-append [] ys = refl
-  flat-append (x ∷ xs) ys = ap (λ (l : List ℕ). f x ++ l) (flat-append xs ys) ∙ sym (append-assoc (f x) (flatMap f xs) (flatMap f ys))
+pub flat-append : {A : Type 0} (f : A → List ℕ) (xs ys : List A) → flatMap f (xs ++ ys) ≡ flatMap f xs ++ flatMap f ys
+unfolding flatMap
+flat-append f [] ys = refl
+flat-append f (x ∷ xs) ys = ap (λ (l : List ℕ). f x ++ l) (flat-append f xs ys) ∙ sym (append-assoc (f x) (flatMap f xs) (flatMap f ys))
 
-  pub flat-one : (x : ℕ) → flatMap f (x ∷ []) ≡ f x
-  unfolding flatMap
-  flat-one x = append-nil (f x)
-
-  -- one text more
-  flat-more : (xs : List ℕ) (i : ℕ) → i < length xs → flatMap f (take i xs) ++ f (getD xs i 0) ≡ flatMap f (take (i + 1) xs)
-  flat-more xs i h = rw (add-one, take-suc xs i 0, flat-append, flat-one)
+-- one text more
+flat-more : (f : ℕ → List ℕ) (xs : List ℕ) (i : ℕ) → i < length xs → flatMap f (take i xs) ++ f (getD xs i 0) ≡ flatMap f (take (i + 1) xs)
+unfolding flatMap
+flat-more f xs i h = rw (add-one, take-suc xs i 0, flat-append f (take i xs) (getD xs i 0 ∷ []), append-nil)
 
 -- the texts of i elements, of at most `most` bytes each, are written
 pub record Pieces (f : ℕ → List ℕ) (most : ℕ) (xs : List ℕ) (before after : List ℕ) (at i : ℕ) : Type 0 where
