@@ -1,5 +1,6 @@
-"""Opens the sheets of all accepted vectors in LibreOffice Calc without a window, and compares their heads with what the files say:
-each head line is one cell, no formula, with its key, `=` and its text. Run by hand; it needs soffice (Debian: libreoffice-calc).
+"""Opens the sheets of all accepted vectors in LibreOffice Calc without a window, and compares their heads with what the files
+say: each head line is one cell, no formula, with its key, `=` and its text. Run by hand; it needs soffice (Debian:
+libreoffice-calc).
 
     python3 tests/in_calc.py
 """
@@ -42,21 +43,30 @@ def head(name):
     return {3: [f'name={shown(file_name)}'], 5: [f'title={shown(title)}']}
 
 
+def convert(folder, names):
+    """Each sheet as Calc has it once it is open, in a file of XML."""
+    sheets = [folder / f'{name}.csv' for name in names]
+    for name, sheet in zip(names, sheets):
+        sheet.write_bytes(vector(name, 'sheet'))
+    run(['soffice', '--headless', COMMA_QUOTE_UTF8, '--convert-to', 'fods', '--outdir', folder, *sheets], check=True,
+        stdout=DEVNULL, stderr=DEVNULL)
+
+
+def wrong_rows(folder, name):
+    """The rows of the head that are not one cell with the right text."""
+    rows = [cells(row) for row in ElementTree.parse(folder / f'{name}.fods').iter(f'{TABLE}table-row')][:6]
+    assert len(rows) == 6
+    return [row for i, row in enumerate(rows) if len(row) != 1 or row != head(name).get(i, row)]
+
+
 def main():
     names = [name for name, _, _ in accepted_vectors()]
     with TemporaryDirectory() as folder:
-        for name in names:
-            (Path(folder) / f'{name}.csv').write_bytes(vector(name, 'sheet'))
-        run(['soffice', '--headless', COMMA_QUOTE_UTF8, '--convert-to', 'fods', '--outdir', folder, *sorted(Path(folder).glob('*.csv'))],
-            check=True, stdout=DEVNULL, stderr=DEVNULL)
-        wrong = 0
-        for name in names:
-            rows = [cells(row) for row in ElementTree.parse(f'{folder}/{name}.fods').iter(f'{TABLE}table-row')][:6]
-            bad = [row for i, row in enumerate(rows) if len(row) != 1 or row != head(name).get(i, row)]
-            wrong += len(bad)
-            print(*(f'{name}: {row}' for row in bad), sep='\n', end='\n' if bad else '')
-    print(f'{len(names)} sheets: {6 * len(names) - wrong} head lines are one cell with their text, {wrong} are not')
-    sys.exit(wrong > 0)
+        convert(Path(folder), names)
+        wrong = [f'{name}: {row}' for name in names for row in wrong_rows(Path(folder), name)]
+    print(*wrong, f'{len(names)} sheets: {6 * len(names) - len(wrong)} head lines are one cell with their text, {len(wrong)} are not',
+          sep='\n')
+    sys.exit(len(wrong) > 0)
 
 
 main()
