@@ -12,7 +12,7 @@ use Rattle.text.specs.Decimal.{decimal}
 use Rattle.text.specs.Text.{shown}
 use Rattle.text.proofs.DecimalMeans.{decimal-digits}
 use Rattle.text.proofs.Pieces.{flat-append}
-use Rattle.sheet_head.specs.Head.{headText, comma, quote, needsQuotes, within, doubled, quoted, headLine}
+use Rattle.sheet_head.specs.Head.{headText, comma, quote, needsQuotes, doubledByte, doubled, quoted, headLine}
 use Rattle.sheet_head.proofs.NeedLaws.{digits-need}
 
 pub with-quotes : (key text : List ℕ) → needsQuotes text ≡ true → quoted (headText key text) ++ ascii "\n" ≡ headLine key text
@@ -28,10 +28,10 @@ number-bare key n = without key (decimal n) (digits-need (decimal n) (decimal-di
 
 -- ---- between quotes
 
-pub doubled-shown : (text : List ℕ) → flatMap (λ (b : ℕ). within (shown b)) text ≡ doubled (map shown text)
+pub doubled-shown : (text : List ℕ) → flatMap (λ (b : ℕ). doubledByte (shown b)) text ≡ doubled (map shown text)
 unfolding flatMap
 doubled-shown [] = refl
-doubled-shown (b ∷ bs) = ap (λ (l : List ℕ). within (shown b) ++ l) (doubled-shown bs)
+doubled-shown (b ∷ bs) = ap (λ (l : List ℕ). doubledByte (shown b) ++ l) (doubled-shown bs)
 
 doubled-none : (text : List ℕ) → needsQuotes text ≡ false → doubled text ≡ text
 unfolding flatMap needsQuotes
@@ -44,8 +44,8 @@ doubled-none (b ∷ bs) e =
 doubled-head : (key text : List ℕ) → needsQuotes key ≡ false → doubled (headText key text) ≡ headText key (doubled text)
 unfolding flatMap
 doubled-head key text k =
-    flat-append within (key ++ ascii "=") text
-    ∙ ap (λ (l : List ℕ). l ++ doubled text) (flat-append within key (ascii "=") ∙ ap (λ (l : List ℕ). l ++ ascii "=") (doubled-none key k))
+    flat-append doubledByte (key ++ ascii "=") text
+    ∙ ap (λ (l : List ℕ). l ++ doubled text) (flat-append doubledByte key (ascii "=") ∙ ap (λ (l : List ℕ). l ++ ascii "=") (doubled-none key k))
 
 pub quoted-head : (key text : List ℕ) → needsQuotes key ≡ false → (quote ∷ []) ++ (key ++ ascii "=") ++ doubled text ++ ascii "\"\n" ≡ quoted (headText key text) ++ ascii "\n"
 quoted-head key text k = rw (doubled-head key text k) (sym (append-assoc (quote ∷ headText key (doubled text)) (quote ∷ []) (ascii "\n")))

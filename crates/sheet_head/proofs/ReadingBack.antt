@@ -16,13 +16,13 @@ use Rattle.text.specs.Decimal.{decimal}
 use Rattle.text.specs.Text.{shown}
 use Rattle.text.proofs.DecimalMeans.{decimal-digits}
 use Rattle.sheet_head.specs.Head.{headText, comma, quote, needsQuotes, doubled, quoted, headLine}
-use Rattle.sheet_head.specs.Rfc4180.{isTextData, ended, preceded, nonEscaped, escaped, oneField, ReadBack}
+use Rattle.sheet_head.specs.Rfc4180.{isTextData, lineEnd, preceded, nonEscaped, escaped, oneField, ReadBack}
 use Rattle.sheet_head.proofs.Printable.{Printable, shown-printable, digits-printable, printable-both, isPrintable, tested, data-byte}
 
 -- ---- a text without quotes
 
 plain-reads : (text : List ℕ) → Printable text → needsQuotes text ≡ false → nonEscaped (text ++ ascii "\n") ≡ some text
-unfolding needsQuotes nonEscaped ended preceded
+unfolding needsQuotes nonEscaped lineEnd preceded
 plain-reads [] p e = refl
 plain-reads (b ∷ bs) p e =
     let at = or-neither (eqb b comma) _ e in
@@ -30,10 +30,10 @@ plain-reads (b ∷ bs) p e =
     rw (data-byte b (p .0 .0) (p .0 .1) (eqb-false b comma (at .0)) (eqb-false b quote (rest .0)), plain-reads bs (p .1) (rest .1))
 
 -- a record does not end before its last byte
-ended-none : (b : ℕ) (l : List ℕ) → 0 < length l → ended (b ∷ l) ≡ none
-unfolding ended
-ended-none b [] h = absurd (not-suc-le-zero h)
-ended-none b (c ∷ l) h = refl
+end-none : (b : ℕ) (l : List ℕ) → 0 < length l → lineEnd (b ∷ l) ≡ none
+unfolding lineEnd
+end-none b [] h = absurd (not-suc-le-zero h)
+end-none b (c ∷ l) h = refl
 
 -- a text that holds a comma or a quote is not read without quotes
 plain-none : (text : List ℕ) → needsQuotes text ≡ true → nonEscaped (text ++ ascii "\n") ≡ none
@@ -45,25 +45,25 @@ plain-none (b ∷ bs) e = go (eqb b comma) (eqb b quote) (isTextData b) refl ref
     some-left = rw length-append (omega arith)
 
     go : (s t d : Bool) → eqb b comma ≡ s → eqb b quote ≡ t → isTextData b ≡ d → (s || (t || needsQuotes bs)) ≡ true
-        → (needsQuotes bs ≡ true → nonEscaped (bs ++ ascii "\n") ≡ none) → cond d (preceded b (nonEscaped (bs ++ ascii "\n"))) (ended (b ∷ (bs ++ ascii "\n"))) ≡ none
-    go s t false p q r e more = ended-none b (bs ++ ascii "\n") some-left
+        → (needsQuotes bs ≡ true → nonEscaped (bs ++ ascii "\n") ≡ none) → cond d (preceded b (nonEscaped (bs ++ ascii "\n"))) (lineEnd (b ∷ (bs ++ ascii "\n"))) ≡ none
+    go s t false p q r e more = end-none b (bs ++ ascii "\n") some-left
     go true t true p q r e more = absurd (true≢false (sym r ∙ ap isTextData (eqb-true b comma p)))
     go false true true p q r e more = absurd (true≢false (sym r ∙ ap isTextData (eqb-true b quote q)))
     go false false true p q r e more = rw (more e)
 
 -- ---- a text between quotes
 
-within-byte : (b : ℕ) (l : List ℕ) → 0x20 ≤ b → b ≤ 0x7E → eqb b quote ≡ false → 0 < length l → escaped (b ∷ l) ≡ preceded b (escaped l)
+escaped-byte : (b : ℕ) (l : List ℕ) → 0x20 ≤ b → b ≤ 0x7E → eqb b quote ≡ false → 0 < length l → escaped (b ∷ l) ≡ preceded b (escaped l)
 unfolding escaped
-within-byte b [] h k q s = absurd (not-suc-le-zero s)
-within-byte b (c ∷ l) h k q s = rw q (go (eqb b comma) refl)
+escaped-byte b [] h k q s = absurd (not-suc-le-zero s)
+escaped-byte b (c ∷ l) h k q s = rw q (go (eqb b comma) refl)
   where
     go : (t : Bool) → eqb b comma ≡ t → cond (isTextData b || (t || (eqb b 0x0D || eqb b 0x0A))) (preceded b (escaped (c ∷ l))) none ≡ preceded b (escaped (c ∷ l))
     go true e = rw (eqb-true b comma e)
     go false e = rw (data-byte b h k (eqb-false b comma e) (eqb-false b quote q))
 
 quoted-reads : (text : List ℕ) → Printable text → escaped (doubled text ++ (quote ∷ ascii "\n")) ≡ some text
-unfolding flatMap escaped preceded ended
+unfolding flatMap escaped preceded lineEnd
 quoted-reads [] p = refl
 quoted-reads (b ∷ bs) p = go (eqb b quote) refl (quoted-reads bs (p .1))
   where
@@ -72,7 +72,7 @@ quoted-reads (b ∷ bs) p = go (eqb b quote) refl (quoted-reads bs (p .1))
 
     go : (t : Bool) → eqb b quote ≡ t → escaped left ≡ some bs → escaped (cond t (quote ∷ (quote ∷ [])) (b ∷ []) ++ doubled bs ++ (quote ∷ ascii "\n")) ≡ some (b ∷ bs)
     go true e more = rw (eqb-true b quote e, more)
-    go false e more = within-byte b left (p .0 .0) (p .0 .1) e (rw length-append (omega arith)) ∙ ap (preceded b) more
+    go false e more = escaped-byte b left (p .0 .0) (p .0 .1) e (rw length-append (omega arith)) ∙ ap (preceded b) more
 
 -- ---- head lines
 

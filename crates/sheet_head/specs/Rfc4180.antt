@@ -17,10 +17,10 @@ abbrev pub isTextData : ℕ → Bool
 isTextData b = isBetween 0x20 0x21 b || (isBetween 0x23 0x2B b || isBetween 0x2D 0x7E b)
 
 -- the end of the record, and no byte after it: nothing is left of the field
-unfoldable pub ended : List ℕ → Option (List ℕ)
-ended [] = none
-ended (b ∷ []) = cond (eqb b 0x0A) (some []) none
-ended (b ∷ (c ∷ bs)) = none
+unfoldable pub lineEnd : List ℕ → Option (List ℕ)
+lineEnd [] = none
+lineEnd (b ∷ []) = cond (eqb b 0x0A) (some []) none
+lineEnd (b ∷ (c ∷ bs)) = none
 
 -- the bytes of the field, this one before the others
 unfoldable pub preceded : ℕ → Option (List ℕ) → Option (List ℕ)
@@ -30,7 +30,7 @@ preceded b (some bs) = some (b ∷ bs)
 -- "non-escaped = *TEXTDATA"
 unfoldable pub nonEscaped : List ℕ → Option (List ℕ)
 nonEscaped [] = none
-nonEscaped (b ∷ bs) = cond (isTextData b) (preceded b (nonEscaped bs)) (ended (b ∷ bs))
+nonEscaped (b ∷ bs) = cond (isTextData b) (preceded b (nonEscaped bs)) (lineEnd (b ∷ bs))
 
 -- "escaped = DQUOTE *(TEXTDATA / COMMA / CR / LF / 2DQUOTE) DQUOTE", after its first DQUOTE
 unfoldable pub escaped : List ℕ → Option (List ℕ)
@@ -38,7 +38,7 @@ escaped [] = none
 escaped (b ∷ []) = none
 escaped (b ∷ (c ∷ bs)) =
     cond (eqb b quote)
-    (cond (eqb c quote) (preceded quote (escaped bs)) (ended (c ∷ bs)))
+    (cond (eqb c quote) (preceded quote (escaped bs)) (lineEnd (c ∷ bs)))
     (cond (isTextData b || (eqb b comma || (eqb b 0x0D || eqb b 0x0A))) (preceded b (escaped (c ∷ bs))) none)
 
 -- "field = (escaped / non-escaped)": the text of a record's one field; none where the bytes are no such record

@@ -13,7 +13,7 @@ ghost use lib.ListN.{length};
 ghost use Rattle.text.specs.Ascii.{ascii};
 ghost use Rattle.text.specs.Decimal.{decimal};
 ghost use Rattle.text.specs.Text.{Wrote, shown};
-ghost use Rattle.sheet_head.specs.Head.{headText, needsQuotes, within, doubled, quoted, headLine};
+ghost use Rattle.sheet_head.specs.Head.{headText, needsQuotes, doubledByte, doubled, quoted, headLine};
 
 fn put_key(out: &mut [u8], key: &[u8]) -> usize
     requires { ⌜ length (now key) + 1 ≤ length (now out) ⌝ }
@@ -51,9 +51,9 @@ fn needs_quotes(text: &[u8]) -> bool
 }
 
 // A byte between quotes: a quote is doubled.
-fn put_within(out: &mut [u8], b: u8) -> usize
+fn put_doubled_byte(out: &mut [u8], b: u8) -> usize
     requires { ⌜ 2 ≤ length (now out) ⌝ }
-    ensures { λ r. ⌜ Wrote (within b) 2 (now (out .entry)) (now (out .exit)) r ⌝ }
+    ensures { λ r. ⌜ Wrote (doubledByte b) 2 (now (out .entry)) (now (out .exit)) r ⌝ }
 {
     if b == b'"' {
         return put_bytes(out, b"\"\"");
@@ -68,7 +68,7 @@ fn put_doubled(out: &mut [u8], text: &[u8]) -> usize
     let mut at = 0;
     let mut i = 0;
     while i < text.len() {
-        let n = put_within(&mut out[at..], show(text[i]));
+        let n = put_doubled_byte(&mut out[at..], show(text[i]));
         at += n;
         i += 1;
     }

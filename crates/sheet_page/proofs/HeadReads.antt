@@ -9,16 +9,14 @@ use Rattle.sheet_head.proofs.Printable.{isPrintable}
 use Rattle.sheet_head.proofs.ReadingBack.{number-reads, text-reads}
 use Rattle.sheet_lines.specs.Line.{bytes}
 use Rattle.sheet_lines.specs.Lines.{numberEntry, textEntry}
-use Rattle.sheet_page.specs.ReadBack.{AllReadBack, none, _and_}
-use Rattle.sheet_page.specs.Sheet.{functionIn, nameIn, titleShown, headLines}
+use Rattle.sheet_page.specs.ReadBack.{AllReadBack}
+use Rattle.sheet_page.specs.Sheet.{nameIn, titleShown, headLines}
 
 pub head-reads : (xs : List Slim) (label : List ℕ) → AllReadBack (headLines xs label)
 unfolding headLines numberEntry textEntry bytes needsQuotes isPrintable
 head-reads xs label =
-    number-reads (ascii "unit") refl refl _
-    and number-reads (ascii "number") refl refl _
-    and number-reads (ascii "version") refl refl _
-    and text-reads (ascii "name") refl refl (nameIn xs)
-    and number-reads (ascii "function") refl refl (functionIn xs)
-    and text-reads (ascii "title") refl refl (titleShown xs label)
-    and none
+    let name = text-reads (ascii "name") refl refl (nameIn xs) in
+    let title = text-reads (ascii "title") refl refl (titleShown xs label) in (
+      number-reads (ascii "unit") refl refl _,
+      (number-reads (ascii "number") refl refl _, (number-reads (ascii "version") refl refl _, (name, (number-reads (ascii "function") refl refl _, (title, tt))))),
+    )

@@ -9,13 +9,13 @@ use lib.ListN.{length}
 use Rattle.text.specs.Text.{shown}
 use Rattle.text.proofs.Pieces.{Pieces, begin, next, ended}
 use Rattle.text.proofs.Writing.{text-is}
-use Rattle.sheet_head.specs.Head.{within}
+use Rattle.sheet_head.specs.Head.{doubledByte}
 use Rattle.sheet_head.proofs.HeadLaws.{doubled-shown}
 use Rattle.sheet_head.proofs.put_doubled.Statement.{statement}
 use Rattle.sheet_head.proofs.put_doubled.Tie as tie
 
 abbrev put : ℕ → List ℕ
-put b = within (shown b)
+put b = doubledByte (shown b)
 
 abbrev Inv-loop : tie.InvT-loop
 Inv-loop out₀ text at₀ i₀ out at i = (i ≤ length text) × Pieces put 2 text out₀ out at i
@@ -31,7 +31,7 @@ loop-again c =
     let w = c .before .before in
     let l = w .before .before .before .before .before in
     let text = l .before .before .before .args .text .now in
-    (omega arith, next put 2 text (l .loop .inv .1) (omega arith) (omega arith) refl (text-is (w .put-within .ensures) (ap within (w .before .show .ensures))))
+    (omega arith, next put 2 text (l .loop .inv .1) (omega arith) (omega arith) refl (text-is (w .put-doubled-byte .ensures) (ap doubledByte (w .before .show .ensures))))
 
 returns : tie.Need-returns Inv-loop μ-loop
 returns c =
