@@ -48,7 +48,7 @@ int main(void) {
     const char *label = "label";
     size_t label_len = strlen(label);
     uint8_t file[2 * WORDS];
-    uint8_t out[1024];
+    uint8_t out[METER_OUTPUT_MIN];
     int i;
 
     for (i = 0; i < WORDS; i++) {

@@ -22,6 +22,10 @@
  *
  * A caller gets: no state is kept and nothing is allocated, so calls may run side by side; a refusal writes no byte of the output, a
  * success only the bytes it counts.
+ *
+ * Stack: 8,192 bytes are enough for a call. This is measured and not proved (x86-64, 2026-11-16, over 26,744 files): meter_check used
+ * 1,520 bytes at most, meter_title 1,552, meter_sheet 3,296, meter_slim 2,096; with lazy binding, where the dynamic linker looks up
+ * memcpy and memset during the first calls, 6,248.
  */
 #ifndef METER_H
 #define METER_H
@@ -33,6 +37,32 @@
 #ifdef __cplusplus
 extern "C" {
 #endif
+
+/* rises when a declaration, an answer or a refusal number changes; 1: the 945 and the 953, with requests T-01 to T-03 */
+#define METER_H_VERSION 1
+
+/* the most bytes of a file */
+#define METER_FILE_MAX 65536
+
+/* the most bytes of a label (meter_sheet) */
+#define METER_LABEL_MAX 507
+
+/* the least output of meter_sheet, in bytes; no line of a sheet has more, its end counted */
+#define METER_OUTPUT_MIN 1024
+
+/* the values of `refusal`; the table above says when each is given */
+#define METER_OK 0
+#define METER_REFUSED_FILE_LENGTH 1
+#define METER_REFUSED_TRUNCATED 2
+#define METER_REFUSED_BLOCK_LENGTH 3 /* or a title without null */
+#define METER_REFUSED_BLOCK_ORDER 4
+#define METER_REFUSED_UNIT_TYPE 5
+#define METER_REFUSED_PROFILES 6 /* word 1: the number of profiles and their mask */
+#define METER_REFUSED_SUB_BLOCK 7
+#define METER_REFUSED_VALUE 8
+#define METER_REFUSED_AFTER_END 9
+#define METER_REFUSED_LABEL 10
+#define METER_REFUSED_OUTPUT 11
 
 /* a start in `starts` where the block is absent, or the file refused */
 #define METER_ABSENT 65535
@@ -74,10 +104,16 @@ meter_title_reply meter_title(const uint8_t *file, size_t file_len, const uint8_
  * Writes lines n, n + 1, .. of the sheet, as many whole ones as fit. The first call asks from line 0 on, the next from n + lines on,
  * until one is finished. A head line whose text holds a comma or a double quote stands between double quotes, those within it doubled,
  * as RFC 4180 has it; such a line has 1,023 bytes at most.
+ *
+ * An answer that is neither refused nor finished has written one line at least (proved: `goes-on`), and a sheet has 200,000 lines at
+ * most, so asking again from n + lines ends.
  */
 meter_sheet_reply meter_sheet(const uint8_t *file, size_t file_len, const uint8_t *label, size_t label_len, uint32_t n, uint8_t *out, size_t out_len);
 
-/* Writes the slim copy. */
+/*
+ * Writes the slim copy. It is never longer than its file (proved: `copy-no-longer`), so an output of file_len bytes is always enough,
+ * and one of METER_FILE_MAX bytes is enough for every file.
+ */
 meter_slim_reply meter_slim(const uint8_t *file, size_t file_len, uint8_t *out, size_t out_len);
 
 #ifdef __cplusplus

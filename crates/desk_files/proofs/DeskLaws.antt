@@ -1,12 +1,12 @@
 -- What the desk says of a file is what the calls answer.
 use mathlib.Core.Bool.{Bool, true, false, cond}
-use mathlib.Core.List.{List, []}
+use mathlib.Core.List.{List, [], _∷_}
 use mathlib.Core.Path.{_≡_, refl, sym, ap, subst, _∙_}
 use Prim.Native.Nat.{ℕ, _+_, _≤_, zero-le}
 use native.Mathlib.Omega.{arith}
 use borrow.Author.Tests.{le-ltb, eqb-true}
-use lib.Dec.{ltb}
-use lib.ListN.{length, drop, length-drop}
+use lib.Dec.{eqb, ltb}
+use lib.ListN.{length, getD, drop, length-drop}
 use Rattle.words.proofs.WordLaws.{Below}
 use Rattle.paging.specs.declared.fit.Progress.{Progress}
 use Rattle.paging.specs.Fit.{fit}
@@ -29,35 +29,47 @@ use Rattle.call_slim.specs.declared.Reply.{Reply as Copy·Reply}
 use Rattle.call_slim.specs.declared.Reply.the-variants as C
 use Rattle.call_slim.specs.Copy.{slimCopy, roomFor, slimReply, Slimmed, replied as slim·replied}
 use Rattle.call_slim.proofs.ReplyLaws.{values-one as slim·values-one, copy-no-longer}
+use Rattle.desk_words.specs.declared.Front.{Front}
+use Rattle.desk_words.specs.declared.Front.the-variants.{Meter, Other, Empty}
 use Rattle.desk_lines.specs.declared.Outcome.{Outcome}
 use Rattle.desk_lines.specs.declared.Outcome.the-variants.{Converted, Copied, Accepted, Refused, Unwritten}
 use Rattle.desk_files.specs.declared.Task.{Task}
 use Rattle.desk_files.specs.declared.Task.the-variants.{Sheets, Slims, Checks}
-use Rattle.desk_files.specs.Desk.{doneWith, byVerdict, outcomeOf, Said, as-due, unwritten, Told, unread, of}
+use Rattle.desk_files.specs.Desk.{frontOf, doneWith, byVerdict, outcomeOf, Said, as-due, unwritten}
 
 -- what could not be written after all
 pub said-on : {a b c : Outcome} → Said a b → Said b c → Said a c
 said-on s (unwritten error) = unwritten error
 said-on {a} s (as-due o e) = subst (Said a) (sym e) s
 
--- the same of a file by its name
-pub told-on : {task : Task} {label held : List ℕ} {a b : Outcome} → Told task label held a → Said a b → Told task label held b
-told-on (unread error) (unwritten e) = of 0 (Unwritten e) zero-le (unwritten e)
-told-on {task} {label} {held} (unread error) (as-due o e) = subst (Told task label held) (sym e) (unread error)
-told-on {b = b} (of n o h s) t = of n b h (said-on s t)
+-- ---- how a file begins
+
+pub front-none : (file : List ℕ) → length file ≡ 0 → Empty ≡ frontOf file
+unfolding frontOf
+front-none [] e = refl
+front-none (b ∷ bs) e = absurd (omega arith)
+
+pub front-first : (file : List ℕ) → (length file ≡ 0 → ⊥) → frontOf file ≡ cond (eqb (getD file 0 0) 1) Meter Other
+unfolding frontOf
+front-first [] h = absurd (h refl)
+front-first (b ∷ bs) h = refl
+
+-- a refusal with the front that was found
+pub with-front : {num at : ℕ} {front f : Front} {due : Outcome} → front ≡ f → Refused num at f ≡ due → Refused num at front ≡ due
+with-front {num} {at} e q = ap (λ (g : Front). Refused num at g) e ∙ q
 
 -- ---- Check
 
-by-check : Answer → Outcome
-by-check (A.Accepted r) = Accepted
-by-check (A.Refused num at) = Refused num at
+by-check : List ℕ → Answer → Outcome
+by-check file (A.Accepted r) = Accepted
+by-check file (A.Refused num at) = Refused num at (frontOf file)
 
-pub check-refused : (task : Task) (file label : List ℕ) (num at : ℕ) → Checked file (A.Refused num at) → Refused num at ≡ outcomeOf task file label
+pub check-refused : (task : Task) (file label : List ℕ) (num at : ℕ) → Checked file (A.Refused num at) → Refused num at (frontOf file) ≡ outcomeOf task file label
 unfolding verdict answered outcomeOf byVerdict by-check
 check-refused task file label num at w = go (surveyed file) (checked-verdict file (A.Refused num at) w)
   where
-    go : (j : Judged) → A.Refused num at ≡ answered j → Refused num at ≡ byVerdict task file label j
-    go (Denied k p) e = ap by-check e
+    go : (j : Judged) → A.Refused num at ≡ answered j → Refused num at (frontOf file) ≡ byVerdict task file label j
+    go (Denied k p) e = ap (by-check file) e
     go (Passed s) e = let z : _≡_ {A = ℕ} 0 1 = cc in absurd (omega arith)
 
 pub check-accepted : (file label : List ℕ) (r : Outline) → Checked file (A.Accepted r) → Accepted ≡ outcomeOf Checks file label
@@ -70,21 +82,21 @@ check-accepted file label r w = go (surveyed file) (checked-verdict file (A.Acce
 
 -- ---- Sheet
 
-by-sheet : Reply → Outcome
-by-sheet (S.Written p) = Accepted
-by-sheet (S.Refused num at) = Refused num at
+by-sheet : List ℕ → Reply → Outcome
+by-sheet file (S.Written p) = Accepted
+by-sheet file (S.Refused num at) = Refused num at (frontOf file)
 
 pub sheet-refused : {file label : List ℕ} {n : ℕ} {before after : List ℕ} {num at : ℕ} → Sheeted file label n before after (S.Refused num at) → 1024 ≤ length before
-    → Refused num at ≡ outcomeOf Sheets file label
+    → Refused num at (frontOf file) ≡ outcomeOf Sheets file label
 unfolding sheetReply sheet·replied askedFor outcomeOf byVerdict doneWith by-sheet
 sheet-refused {file} {label} {n} {before} {num = num} {at} w roomy = go (surveyed file) (sheet·values-one (S.Refused num at) (sheetReply file label n (length before)) (w .answer-is))
   where
-    go₂ : (b : Bool) → S.Refused num at ≡ cond b (S.Refused 10 0) (S.Written (progressIn (length before) (drop n (sheetTexts file label)))) → Refused num at ≡ cond b (Refused 10 0) (Converted (length (sheetTexts file label)))
-    go₂ true e = ap by-sheet e
+    go₂ : (b : Bool) → S.Refused num at ≡ cond b (S.Refused 10 0) (S.Written (progressIn (length before) (drop n (sheetTexts file label)))) → Refused num at (frontOf file) ≡ cond b (Refused 10 0 (frontOf file)) (Converted (length (sheetTexts file label)))
+    go₂ true e = ap (by-sheet file) e
     go₂ false e = let z : _≡_ {A = ℕ} 0 1 = cc in absurd (omega arith)
 
-    go : (j : Judged) → S.Refused num at ≡ sheet·replied label (length before) (drop n (sheetTexts file label)) j → Refused num at ≡ byVerdict Sheets file label j
-    go (Denied k p) e = ap by-sheet e
+    go : (j : Judged) → S.Refused num at ≡ sheet·replied label (length before) (drop n (sheetTexts file label)) j → Refused num at (frontOf file) ≡ byVerdict Sheets file label j
+    go (Denied k p) e = ap (by-sheet file) e
     go (Passed s) e = go₂ (ltb 507 (length label)) (rw (le-ltb (length before) 1024 roomy) at e)
 
 module _ {file label : List ℕ} {n room : ℕ} {p : Progress} (w : Success file label n room p) (within : n ≤ length (sheetTexts file label)) where
@@ -104,17 +116,17 @@ module _ {file label : List ℕ} {n room : ℕ} {p : Progress} (w : Success file
 
 -- ---- Slim
 
-abbrev pub by-slim : Copy·Reply → Outcome
-by-slim (C.Written n) = Copied n
-by-slim (C.Refused num at) = Refused num at
+abbrev pub by-slim : List ℕ → Copy·Reply → Outcome
+by-slim file (C.Written n) = Copied n
+by-slim file (C.Refused num at) = Refused num at (frontOf file)
 
 -- where the output has room for the file, the answer says it all
 pub slim-said : {file before after : List ℕ} {r : Copy·Reply} → Slimmed file before after r → Below 256 file → length file ≤ length before → (label : List ℕ)
-    → by-slim r ≡ outcomeOf Slims file label
+    → by-slim file r ≡ outcomeOf Slims file label
 unfolding slimReply slim·replied roomFor outcomeOf byVerdict doneWith
-slim-said {file} {before} {r = r} w small roomy label = ap by-slim (slim·values-one r (slimReply file (length before)) (w .answer-is)) ∙ go (surveyed file) refl
+slim-said {file} {before} {r = r} w small roomy label = ap (by-slim file) (slim·values-one r (slimReply file (length before)) (w .answer-is)) ∙ go (surveyed file) refl
   where
-    go : (j : Judged) → surveyed file ≡ j → by-slim (slim·replied (slimCopy file) (length before) j) ≡ byVerdict Slims file label j
+    go : (j : Judged) → surveyed file ≡ j → by-slim file (slim·replied (slimCopy file) (length before) j) ≡ byVerdict Slims file label j
     go (Denied k p) e = refl
     go (Passed s) e = rw (le-ltb (length before) (length (slimCopy file)) (omega (arith, copy-no-longer file s e small))) refl
 

@@ -1,49 +1,60 @@
-// Writing beside a file: under another name first, and renamed when it is complete.
-use crate::Task;
-use crate::load::error;
-use crate::load::natural;
+// Writing what comes of a file: under another name first, and renamed when it is complete.
+use crate::front_of;
 use call_sheet::sheet;
 use call_slim::slim;
 use desk_lines::Outcome;
 use desk_lines::is_done;
+use desk_targets::Form;
+use desk_targets::Mark;
+use desk_targets::Target;
+use desk_targets::load::error;
+use desk_targets::load::natural;
+use desk_targets::target_at;
+use libc::EEXIST;
 use text::decimal::put_decimal;
 use text::put::put_bytes;
-ghost use mathlib.Core.List.{[], _++_};
+ghost use mathlib.Core.List.{[]};
 ghost use Prim.Native.Nat.{_+_, _≤_};
 ghost use lib.ListN.{length};
 ghost use Rattle.text.specs.Text.{Wrote};
 ghost use Rattle.desk_files.specs.declared.Task.the-variants.{Sheets, Slims};
-ghost use Rattle.desk_files.specs.Desk.{ending, partPath, outcomeOf, Said};
+ghost use Rattle.desk_files.specs.Desk.{partPath, outcomeOf, taskOf, Said, Saved};
 
-fn put_ending(out: &mut [u8], task: Task) -> usize
-    requires { ⌜ 5 ≤ length (now out) ⌝ }
-    ensures { λ r. ⌜ Wrote (ending task) 5 (now (out .entry)) (now (out .exit)) r ⌝ }
-{
-    match task {
-        Task::Sheets => put_bytes(out, b".csv"),
-        Task::Slims => put_bytes(out, b".slim"),
-        Task::Checks => put_bytes(out, b".csv"),
-    }
+// A part that was made, or why not: its descriptor, or one below 0; and how long its path is.
+struct Part {
+    fd: i32,
+    len: usize,
 }
 
-// The path of what is written of a file.
-pub fn put_path(out: &mut [u8], name: &[u8], task: Task) -> usize
-    requires { ⌜ length (now name) + 5 ≤ length (now out) ⌝ }
-    ensures { λ r. ⌜ Wrote (now (name .entry) ++ ending task) (length (now (name .entry)) + 5) (now (out .entry)) (now (out .exit)) r ⌝ }
-{
-    let a = put_bytes(out, name);
-    a + put_ending(&mut out[a..], task)
-}
-
-// The path of it while it is not complete. It has the number of this process, so that no other desk writes there.
-fn put_part_path(out: &mut [u8], path: &[u8], process: u32) -> usize
+fn put_part_path(out: &mut [u8], path: &[u8], number: u64) -> usize
     requires { ⌜ length (now path) + 26 ≤ length (now out) ⌝ }
-    ensures { λ r. ⌜ Wrote (partPath (now (path .entry)) process) (length (now (path .entry)) + 26) (now (out .entry)) (now (out .exit)) r ⌝ }
+    ensures { λ r. ⌜ Wrote (partPath (now (path .entry)) number) (length (now (path .entry)) + 26) (now (out .entry)) (now (out .exit)) r ⌝ }
 {
     let a = put_bytes(out, path);
     let b = a + put_bytes(&mut out[a..], b".");
-    let c = b + put_decimal(&mut out[b..], process as u64);
+    let c = b + put_decimal(&mut out[b..], number);
     c + put_bytes(&mut out[c..], b".part")
+}
+
+// Makes the part, by the first number from this process's on that is not taken, so that no other desk writes there.
+fn make_part(part: &mut [u8], path: &[u8]) -> Part
+    requires { ⌜ length (now path) + 26 ≤ length (now part) ⌝ }
+    ensures { λ r. ⌜ r .len ≤ length (now (part .exit)) ⌝ }
+{
+    let process = natural(libc::getpid()) as u64;
+    let mut tries = 0u64;
+    while tries < 1000 {
+        let len = put_part_path(part, path, process + tries);
+        let fd = os::create(&part[0..len]);
+        if 0 <= fd {
+            return Part { fd, len };
+        }
+        if os::errno() != EEXIST {
+            return Part { fd, len };
+        }
+        tries += 1;
+    }
+    Part { fd: -1, len: 0 }
 }
 
 // All lines of a file's sheet, as many at a time as fit into `out`.
@@ -54,7 +65,10 @@ fn write_sheet<'a>(fd: i32, file: &'a [u8], label: &'a [u8], out: &mut [u8]) -> 
     let mut n = 0;
     loop {
         match sheet(file, label, n, out) {
-            call_sheet::Reply::Refused { num, at } => return Outcome::Refused { num, at },
+            call_sheet::Reply::Refused { num, at } => {
+                let front = front_of(file);
+                return Outcome::Refused { num, at, front };
+            }
             call_sheet::Reply::Written(p) => {
                 let size = p.bytes;
                 if !io::write_all(fd, &out[0..size]) {
@@ -75,13 +89,26 @@ fn write_slim(fd: i32, file: &[u8], out: &mut [u8]) -> Outcome
     ensures { λ r. ⌜ Said (outcomeOf Slims (now (file .entry)) []) r ⌝ }
 {
     match slim(file, out) {
-        call_slim::Reply::Refused { num, at } => Outcome::Refused { num, at },
+        call_slim::Reply::Refused { num, at } => {
+            let front = front_of(file);
+            Outcome::Refused { num, at, front }
+        }
         call_slim::Reply::Written(bytes) => {
             if !io::write_all(fd, &out[0..bytes]) {
                 return Outcome::Unwritten { error: error() };
             }
             Outcome::Copied { bytes }
         }
+    }
+}
+
+fn write<'a>(form: Form, fd: i32, file: &'a [u8], label: &'a [u8], out: &mut [u8]) -> Outcome
+    requires { ⌜ (1024 ≤ length (now out)) × (length (now file) ≤ length (now out)) ⌝ }
+    ensures { λ r. ⌜ Said (outcomeOf (taskOf form) (now (file .entry)) (now (label .entry))) r ⌝ }
+{
+    match form {
+        Form::Sheet => write_sheet(fd, file, label, out),
+        Form::Slim => write_slim(fd, file, out),
     }
 }
 
@@ -118,30 +145,37 @@ fn keep(fd: i32, o: Outcome, part: &[u8], path: &[u8]) -> Outcome
     o
 }
 
-pub fn save_sheet<'a>(path: &[u8], file: &'a [u8], label: &'a [u8], out: &mut [u8]) -> Outcome
-    requires { ⌜ (1024 ≤ length (now out)) × (length (now path) ≤ 4101) ⌝ }
-    ensures { λ r. ⌜ Said (outcomeOf Sheets (now (file .entry)) (now (label .entry))) r ⌝ }
+fn make<'a>(form: Form, path: &[u8], file: &'a [u8], label: &'a [u8], out: &mut [u8]) -> Outcome
+    requires { ⌜ (1024 ≤ length (now out)) × (length (now file) ≤ length (now out)) × (length (now path) ≤ 4101) ⌝ }
+    ensures { λ r. ⌜ Said (outcomeOf (taskOf form) (now (file .entry)) (now (label .entry))) r ⌝ }
 {
-    let mut part = [0u8; 4127];
-    let n = put_part_path(&mut part, path, natural(libc::getpid()));
-    let fd = os::create(&part[0..n]);
+    let mut scratch = [0u8; 4127];
+    let part = make_part(&mut scratch, path);
+    let fd = part.fd;
+    let len = part.len;
     if fd < 0 {
         return Outcome::Unwritten { error: error() };
     }
-    let o = write_sheet(fd, file, label, out);
-    keep(fd, o, &part[0..n], path)
+    let o = write(form, fd, file, label, out);
+    keep(fd, o, &scratch[0..len], path)
 }
 
-pub fn save_slim(path: &[u8], file: &[u8], out: &mut [u8]) -> Outcome
-    requires { ⌜ (length (now file) ≤ length (now out)) × (length (now path) ≤ 4101) ⌝ }
-    ensures { λ r. ⌜ Said (outcomeOf Slims (now (file .entry)) []) r ⌝ }
+// The sheet or the slim copy of an accepted file, where its target is free.
+pub fn save<'a>(
+    form: Form,
+    mark: Mark,
+    path: &[u8],
+    ids: &[u8],
+    id: &[u8],
+    file: &'a [u8],
+    label: &'a [u8],
+    out: &mut [u8],
+) -> Outcome
+    requires { ⌜ (65537 ≤ length (now out)) × (length (now file) ≤ length (now out)) × (length (now path) ≤ 4101) ⌝ }
+    ensures { λ r. ⌜ Saved form (mark .claimed) (now (ids .entry)) (now (id .entry)) (outcomeOf (taskOf form) (now (file .entry)) (now (label .entry))) r ⌝ }
 {
-    let mut part = [0u8; 4127];
-    let n = put_part_path(&mut part, path, natural(libc::getpid()));
-    let fd = os::create(&part[0..n]);
-    if fd < 0 {
-        return Outcome::Unwritten { error: error() };
+    match target_at(form, mark, path, ids, id, out) {
+        Target::Held { by } => Outcome::Kept { by },
+        Target::Free => make(form, path, file, label, out),
     }
-    let o = write_slim(fd, file, out);
-    keep(fd, o, &part[0..n], path)
 }

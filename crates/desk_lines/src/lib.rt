@@ -1,60 +1,84 @@
-// What the desk says: a line for each file with what came of it, and a summary.
+// What the desk says: a line for each file with what came of it, a summary, and the names that did not get through once more.
+use desk_words::Front;
 use desk_words::put_cause;
-use desk_words::put_refused;
+use desk_words::put_refusal;
 use text::decimal::put_decimal;
 use text::put::put_byte;
 use text::put::put_bytes;
 ghost use mathlib.Core.Bool.{cond};
 ghost use mathlib.Core.List.{[], _++_};
 ghost use mathlib.Core.Path.{_≡_};
-ghost use Prim.Native.Nat.{_+_, _≤_, _<_};
+ghost use Prim.Native.Nat.{_+_, _-_, _≤_, _<_};
 ghost use lib.Dec.{eqb};
 ghost use lib.ListN.{length};
 ghost use Rattle.text.specs.Ascii.{ascii};
 ghost use Rattle.text.specs.Decimal.{decimal};
-ghost use Rattle.text.specs.Text.{Wrote};
+ghost use Rattle.text.specs.Text.{Wrote, named};
 ghost use Rattle.desk_words.specs.Meanings.{cause};
-ghost use Rattle.desk_lines.specs.Notices.{outcome, place, older, kindOf, counted, total, notice, summary};
+ghost use Rattle.desk_lines.specs.Notices.{printed, printedName, taken, outcome, place, older, notice, fateOf, noTally, oneMore, total, notBegun, summary, fateByte, againWords, again};
+
+// By what a target is taken, so that nothing is written there.
+pub enum Taken {
+    Input,
+    NoSheet,
+    NoSlim,
+    Folder,
+    Shut { error: u16 },
+    Claimed,
+}
 
 // What came of a file. An error is the system's number of it.
 pub enum Outcome {
     Converted { lines: u32 },
     Copied { bytes: usize },
     Accepted,
-    Refused { num: u8, at: usize },
+    Refused { num: u8, at: usize, front: Front },
     Unread { error: u16 },
     Unwritten { error: u16 },
+    Kept { by: Taken },
 }
 
 // How it is counted: converted, copied or accepted; refused; not read or written.
-pub enum Kind {
+pub enum Fate {
     Done,
     Refused,
     Failed,
 }
 
-fn kind_of(o: Outcome) -> Kind
-    ensures { λ r. ⌜ r ≡ kindOf o ⌝ }
+pub fn fate_of(o: Outcome) -> Fate
+    ensures { λ r. ⌜ r ≡ fateOf o ⌝ }
 {
     match o {
-        Outcome::Converted { lines } => Kind::Done,
-        Outcome::Copied { bytes } => Kind::Done,
-        Outcome::Accepted => Kind::Done,
-        Outcome::Refused { num, at } => Kind::Refused,
-        Outcome::Unread { error } => Kind::Failed,
-        Outcome::Unwritten { error } => Kind::Failed,
+        Outcome::Converted { lines } => Fate::Done,
+        Outcome::Copied { bytes } => Fate::Done,
+        Outcome::Accepted => Fate::Done,
+        Outcome::Refused { num, at, front } => Fate::Refused,
+        Outcome::Unread { error } => Fate::Failed,
+        Outcome::Unwritten { error } => Fate::Failed,
+        Outcome::Kept { by } => Fate::Failed,
     }
 }
 
 pub fn is_done(o: Outcome) -> bool {
-    match kind_of(o) {
-        Kind::Done => true,
-        Kind::Refused => false,
-        Kind::Failed => false,
+    match fate_of(o) {
+        Fate::Done => true,
+        Fate::Refused => false,
+        Fate::Failed => false,
     }
 }
 
-// How many files of each kind.
+// A file in the list of fates.
+pub fn fate_byte(fate: Fate) -> u8
+    ensures { λ r. ⌜ r ≡ fateByte fate ⌝ }
+{
+    match fate {
+        Fate::Done => 0,
+        Fate::Refused => 1,
+        Fate::Failed => 2,
+    }
+}
+
+// How many files of each fate.
 pub struct Tally {
     pub done: usize,
     pub refused: usize,
@@ -63,7 +87,7 @@ pub struct Tally {
 
 impl Tally {
     pub fn none() -> Tally
-        ensures { λ r. ⌜ total r ≡ 0 ⌝ }
+        ensures { λ r. ⌜ r ≡ noTally ⌝ }
     {
         Tally {
             done: 0,
@@ -73,18 +97,43 @@ impl Tally {
     }
 
     // One file more.
-    pub fn with(self, o: Outcome) -> Tally
+    pub fn with(self, fate: Fate) -> Tally
         requires { ⌜ total self < 18446744073709551615 ⌝ }
-        ensures { λ r. ⌜ (r ≡ counted self o) × (total r ≡ total self + 1) ⌝ }
+        ensures { λ r. ⌜ (r ≡ oneMore self fate) × (total r ≡ total self + 1) ⌝ }
     {
         let mut t = self;
-        match kind_of(o) {
-            Kind::Done => t.done += 1,
-            Kind::Refused => t.refused += 1,
-            Kind::Failed => t.failed += 1,
+        match fate {
+            Fate::Done => t.done += 1,
+            Fate::Refused => t.refused += 1,
+            Fate::Failed => t.failed += 1,
         }
         t
     }
+}
+
+// A byte of a name as it is printed.
+fn print_byte(b: u8) -> u8
+    ensures { λ r. ⌜ r ≡ printed b ⌝ }
+{
+    if b < 0x20 {
+        return b'?';
+    }
+    if b == 0x7F {
+        return b'?';
+    }
+    b
+}
+
+fn put_name(out: &mut [u8], name: &[u8]) -> usize
+    requires { ⌜ length (now name) ≤ length (now out) ⌝ }
+    ensures { λ r. ⌜ Wrote (printedName (now (name .entry))) (length (now (name .entry))) (now (out .entry)) (now (out .exit)) r ⌝ }
+{
+    let mut i = 0;
+    while i < name.len() {
+        out[i] = print_byte(name[i]);
+        i += 1;
+    }
+    i
 }
 
 // A text, and a cause after it.
@@ -105,27 +154,52 @@ fn put_count(out: &mut [u8], n: u64, what: &[u8]) -> usize
     a + put_bytes(&mut out[a..], what)
 }
 
-fn put_outcome(out: &mut [u8], o: Outcome) -> usize
-    requires { ⌜ 118 ≤ length (now out) ⌝ }
-    ensures { λ r. ⌜ Wrote (outcome o) 118 (now (out .entry)) (now (out .exit)) r ⌝ }
+fn put_taken(out: &mut [u8], by: Taken) -> usize
+    requires { ⌜ 57 ≤ length (now out) ⌝ }
+    ensures { λ r. ⌜ Wrote (taken by) 57 (now (out .entry)) (now (out .exit)) r ⌝ }
+{
+    match by {
+        Taken::Input => put_bytes(out, b" is itself a file to convert"),
+        Taken::NoSheet => put_bytes(out, b" is there and is no sheet"),
+        Taken::NoSlim => put_bytes(out, b" is there and is no slim copy"),
+        Taken::Folder => put_bytes(out, b" is a folder"),
+        Taken::Shut { error } => put_failure(out, b" is there and is not read: ", error),
+        Taken::Claimed => put_bytes(out, b" belongs to an earlier file of this run"),
+    }
+}
+
+// That nothing was written, and why.
+fn put_kept(out: &mut [u8], path: &[u8], by: Taken) -> usize
+    requires { ⌜ 70 + length (now path) ≤ length (now out) ⌝ }
+    ensures { λ r. ⌜ Wrote (ascii "not written: " ++ printedName (now (path .entry)) ++ taken by) (70 + length (now (path .entry))) (now (out .entry)) (now (out .exit)) r ⌝ }
+{
+    let a = put_bytes(out, b"not written: ");
+    let b = a + put_name(&mut out[a..], path);
+    b + put_taken(&mut out[b..], by)
+}
+
+fn put_outcome(out: &mut [u8], path: &[u8], o: Outcome) -> usize
+    requires { ⌜ 145 + length (now path) ≤ length (now out) ⌝ }
+    ensures { λ r. ⌜ Wrote (outcome (now (path .entry)) o) (145 + length (now (path .entry))) (now (out .entry)) (now (out .exit)) r ⌝ }
 {
     match o {
         Outcome::Converted { lines } => put_count(out, lines as u64, b" lines"),
         Outcome::Copied { bytes } => put_count(out, bytes as u64, b" bytes"),
         Outcome::Accepted => put_bytes(out, b"accepted"),
-        Outcome::Refused { num, at } => put_refused(out, num, at),
+        Outcome::Refused { num, at, front } => put_refusal(out, num, at, front),
         Outcome::Unread { error } => put_failure(out, b"not read: ", error),
         Outcome::Unwritten { error } => put_failure(out, b"not written in its folder: ", error),
+        Outcome::Kept { by } => put_kept(out, path, by),
     }
 }
 
-// A text between two others.
-fn put_within(out: &mut [u8], front: &[u8], middle: &[u8], end: &[u8]) -> usize
-    requires { ⌜ length (now front) + length (now middle) + length (now end) ≤ length (now out) ⌝ }
-    ensures { λ r. ⌜ Wrote (now (front .entry) ++ now (middle .entry) ++ now (end .entry)) (length (now (front .entry)) + length (now (middle .entry)) + length (now (end .entry))) (now (out .entry)) (now (out .exit)) r ⌝ }
+// A name between two texts.
+fn put_within(out: &mut [u8], front: &[u8], name: &[u8], end: &[u8]) -> usize
+    requires { ⌜ length (now front) + length (now name) + length (now end) ≤ length (now out) ⌝ }
+    ensures { λ r. ⌜ Wrote (now (front .entry) ++ printedName (now (name .entry)) ++ now (end .entry)) (length (now (front .entry)) + length (now (name .entry)) + length (now (end .entry))) (now (out .entry)) (now (out .exit)) r ⌝ }
 {
     let a = put_bytes(out, front);
-    let b = a + put_bytes(&mut out[a..], middle);
+    let b = a + put_name(&mut out[a..], name);
     b + put_bytes(&mut out[b..], end)
 }
 
@@ -138,32 +212,32 @@ fn put_place(out: &mut [u8], i: usize, files: usize, name: &[u8]) -> usize
     b + put_within(&mut out[b..], b" ", name, b": ")
 }
 
-// Nothing for an empty path.
-fn put_older(out: &mut [u8], path: &[u8]) -> usize
+fn put_older(out: &mut [u8], path: &[u8], there: bool) -> usize
     requires { ⌜ 26 + length (now path) ≤ length (now out) ⌝ }
-    ensures { λ r. ⌜ Wrote (cond (eqb (length (now (path .entry))) 0) [] (older (now (path .entry)))) (26 + length (now (path .entry))) (now (out .entry)) (now (out .exit)) r ⌝ }
+    ensures { λ r. ⌜ Wrote (cond there (older (now (path .entry))) []) (26 + length (now (path .entry))) (now (out .entry)) (now (out .exit)) r ⌝ }
 {
-    if path.len() == 0 {
-        return 0;
+    if there {
+        return put_within(out, b"; an older ", path, b" is still there");
     }
-    put_within(out, b"; an older ", path, b" is still there")
+    0
 }
 
-// The line of a file; `path` is a sheet or a slim copy that stands beside it from before, or nothing.
+// The line of a file; `there` says that a sheet or a slim copy stands at `path` from before.
 pub fn put_notice(
     out: &mut [u8],
     i: usize,
     files: usize,
     name: &[u8],
-    o: Outcome,
     path: &[u8],
+    o: Outcome,
+    there: bool,
 ) -> usize
-    requires { ⌜ 189 + length (now name) + length (now path) ≤ length (now out) ⌝ }
-    ensures { λ r. ⌜ Wrote (notice i files (now (name .entry)) o (now (path .entry))) (189 + length (now (name .entry)) + length (now (path .entry))) (now (out .entry)) (now (out .exit)) r ⌝ }
+    requires { ⌜ 216 + length (now name) + length (now path) + length (now path) ≤ length (now out) ⌝ }
+    ensures { λ r. ⌜ Wrote (notice i files (now (name .entry)) (now (path .entry)) o there) (216 + length (now (name .entry)) + length (now (path .entry)) + length (now (path .entry))) (now (out .entry)) (now (out .exit)) r ⌝ }
 {
     let a = put_place(out, i, files, name);
-    let b = a + put_outcome(&mut out[a..], o);
-    let c = b + put_older(&mut out[b..], path);
+    let b = a + put_outcome(&mut out[a..], path, o);
+    let c = b + put_older(&mut out[b..], path, there);
     c + put_byte(&mut out[c..], b'\n')
 }
 
@@ -188,20 +262,56 @@ fn put_done(out: &mut [u8], done: usize, word: &[u8]) -> usize
 
 // The files that did not get through.
 fn put_others(out: &mut [u8], refused: usize, failed: usize) -> usize
-    requires { ⌜ 71 ≤ length (now out) ⌝ }
-    ensures { λ r. ⌜ Wrote (decimal refused ++ ascii " refused, " ++ decimal failed ++ ascii " not read or written\n") 71 (now (out .entry)) (now (out .exit)) r ⌝ }
+    requires { ⌜ 70 ≤ length (now out) ⌝ }
+    ensures { λ r. ⌜ Wrote (decimal refused ++ ascii " refused, " ++ decimal failed ++ ascii " not read or written") 70 (now (out .entry)) (now (out .exit)) r ⌝ }
 {
     let a = put_count(out, refused as u64, b" refused, ");
     let b = a + put_decimal(&mut out[a..], failed as u64);
-    b + put_bytes(&mut out[b..], b" not read or written\n")
+    b + put_bytes(&mut out[b..], b" not read or written")
+}
+
+// Nothing where every file was begun.
+fn put_not_begun(out: &mut [u8], n: usize) -> usize
+    requires { ⌜ 32 ≤ length (now out) ⌝ }
+    ensures { λ r. ⌜ Wrote (notBegun n) 32 (now (out .entry)) (now (out .exit)) r ⌝ }
+{
+    if n == 0 {
+        return 0;
+    }
+    let a = put_bytes(out, b", ");
+    a + put_count(&mut out[a..], n as u64, b" not begun")
 }
 
 // The last line; `word` says what was done with the files that got through.
 pub fn put_summary(out: &mut [u8], files: usize, word: &[u8], t: Tally) -> usize
-    requires { ⌜ 122 + length (now word) ≤ length (now out) ⌝ }
-    ensures { λ r. ⌜ Wrote (summary files (now (word .entry)) t) (122 + length (now (word .entry))) (now (out .entry)) (now (out .exit)) r ⌝ }
+    requires { ⌜ (154 + length (now word) ≤ length (now out)) × (total t ≤ files) ⌝ }
+    ensures { λ r. ⌜ Wrote (summary files (now (word .entry)) t) (154 + length (now (word .entry))) (now (out .entry)) (now (out .exit)) r ⌝ }
 {
     let a = put_files(out, files);
     let b = a + put_done(&mut out[a..], t.done, word);
-    b + put_others(&mut out[b..], t.refused, t.failed)
+    let c = b + put_others(&mut out[b..], t.refused, t.failed);
+    let rest = files - t.done - t.refused - t.failed;
+    let d = c + put_not_begun(&mut out[c..], rest);
+    d + put_byte(&mut out[d..], b'\n')
+}
+
+fn put_again_word(out: &mut [u8], fate: u8) -> usize
+    requires { ⌜ 21 ≤ length (now out) ⌝ }
+    ensures { λ r. ⌜ Wrote (named againWords fate) 21 (now (out .entry)) (now (out .exit)) r ⌝ }
+{
+    match fate {
+        1 => put_bytes(out, b"refused: "),
+        2 => put_bytes(out, b"not read or written: "),
+        _ => 0,
+    }
+}
+
+// A name that did not get through once more.
+pub fn put_again(out: &mut [u8], fate: u8, name: &[u8]) -> usize
+    requires { ⌜ 22 + length (now name) ≤ length (now out) ⌝ }
+    ensures { λ r. ⌜ Wrote (again fate (now (name .entry))) (22 + length (now (name .entry))) (now (out .entry)) (now (out .exit)) r ⌝ }
+{
+    let a = put_again_word(out, fate);
+    let b = a + put_name(&mut out[a..], name);
+    b + put_byte(&mut out[b..], b'\n')
 }

@@ -8,7 +8,14 @@ ghost use lib.ListN.{length};
 ghost use Rattle.text.specs.Ascii.{ascii};
 ghost use Rattle.text.specs.Decimal.{decimal};
 ghost use Rattle.text.specs.Text.{Wrote, named};
-ghost use Rattle.desk_words.specs.Meanings.{meanings, causes, refused, cause};
+ghost use Rattle.desk_words.specs.Meanings.{meanings, causes, doubt, refusal, cause};
+
+// How a file begins: as a meter file does, by block 01; otherwise; or not at all.
+pub enum Front {
+    Meter,
+    Other,
+    Empty,
+}
 
 fn put_meaning(out: &mut [u8], num: u8) -> usize
     requires { ⌜ 70 ≤ length (now out) ⌝ }
@@ -43,14 +50,26 @@ fn put_word(out: &mut [u8], at: usize) -> usize
     b + put_bytes(&mut out[b..], b": ")
 }
 
-pub fn put_refused(out: &mut [u8], num: u8, at: usize) -> usize
-    requires { ⌜ 118 ≤ length (now out) ⌝ }
-    ensures { λ r. ⌜ Wrote (refused num at) 118 (now (out .entry)) (now (out .exit)) r ⌝ }
+fn put_doubt(out: &mut [u8], front: Front) -> usize
+    requires { ⌜ 27 ≤ length (now out) ⌝ }
+    ensures { λ r. ⌜ Wrote (doubt front) 27 (now (out .entry)) (now (out .exit)) r ⌝ }
+{
+    match front {
+        Front::Meter => 0,
+        Front::Other => put_bytes(out, b"; this may be no meter file"),
+        Front::Empty => put_bytes(out, b"; the file is empty"),
+    }
+}
+
+pub fn put_refusal(out: &mut [u8], num: u8, at: usize, front: Front) -> usize
+    requires { ⌜ 145 ≤ length (now out) ⌝ }
+    ensures { λ r. ⌜ Wrote (refusal num at front) 145 (now (out .entry)) (now (out .exit)) r ⌝ }
 {
     let a = put_bytes(out, b"refused ");
     let b = a + put_short(&mut out[a..], num as u64);
     let c = b + put_word(&mut out[b..], at);
-    c + put_meaning(&mut out[c..], num)
+    let d = c + put_meaning(&mut out[c..], num);
+    d + put_doubt(&mut out[d..], front)
 }
 
 fn put_known_cause(out: &mut [u8], error: u16) -> usize
@@ -58,15 +77,19 @@ fn put_known_cause(out: &mut [u8], error: u16) -> usize
     ensures { λ r. ⌜ Wrote (named causes error) 30 (now (out .entry)) (now (out .exit)) r ⌝ }
 {
     match error {
+        1 => put_bytes(out, b"it may not be changed"),
         2 => put_bytes(out, b"there is no such file"),
         5 => put_bytes(out, b"the disk has a fault"),
         13 => put_bytes(out, b"permission is missing"),
         17 => put_bytes(out, b"its temporary name is taken"),
         20 => put_bytes(out, b"there is no such folder"),
         21 => put_bytes(out, b"it is a folder"),
+        27 => put_bytes(out, b"the file would be too large"),
         28 => put_bytes(out, b"the disk is full"),
+        29 => put_bytes(out, b"it is a pipe or a device"),
         30 => put_bytes(out, b"the disk is read-only"),
         36 => put_bytes(out, b"the name is too long"),
+        40 => put_bytes(out, b"its links lead in a circle"),
         122 => put_bytes(out, b"the disk quota is used up"),
         _ => 0,
     }

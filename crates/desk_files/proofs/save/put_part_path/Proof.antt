@@ -1,3 +1,4 @@
+-- `save::put_part_path` meets its contract. Assumes nothing.
 use borrow.Author.Needs.{needs}
 use Rattle.desk_files.specs.Desk.{partPath}
 use Rattle.text.proofs.Writing.{_then_, at-most}

@@ -7,7 +7,7 @@ use lib.ListN.{length}
 use Rattle.sheet_page.specs.Sheet.{sheetTexts}
 use Rattle.call_sheet.proofs.WrittenLaws.{success, counts-within, next-small, goes-on}
 use Rattle.desk_files.specs.Desk.{as-due, unwritten}
-use Rattle.desk_files.proofs.DeskLaws.{sheet-refused, lines-within, sheet-done}
+use Rattle.desk_files.proofs.DeskLaws.{with-front, sheet-refused, lines-within, sheet-done}
 use Rattle.desk_files.proofs.save.write_sheet.Statement.{statement}
 use Rattle.desk_files.proofs.save.write_sheet.Tie as tie
 
@@ -22,8 +22,8 @@ loop-holds c = (omega arith, refl, omega arith)
 
 returns : tie.Need-returns Inv-loop μ-loop
 returns c =
-    let s = c .before .before .before .before .before in
-    as-due _ (sheet-refused (rw (c .before .num .given .1) at (s .sheet .ensures)) (omega (arith, s .before .before .loop .inv .1, s .before .before .before .before .before .before .pre)))
+    let s = c .before .before .before .before .before .before in
+    as-due _ (with-front (c .front-of .ensures) (sheet-refused (rw (c .before .before .num .given .1) at (s .sheet .ensures)) (omega (arith, s .before .before .loop .inv .1, s .before .before .before .before .before .before .pre))))
 
 returns-2 : tie.Need-returns-2 Inv-loop μ-loop
 returns-2 c = unwritten _
@@ -62,7 +62,7 @@ loop-again c =
     (next-small t (inv .0), s .sheet .kept .1 .1 .1 .0 ∙ inv .1, lines-within t (inv .2))
 
 same-length : tie.Need-same-length Inv-loop μ-loop
-same-length c = let s = c .before .before .before .before .before in s .sheet .kept .1 .1 .1 .0 ∙ s .before .before .loop .inv .1
+same-length c = let s = c .before .before .before .before .before .before in s .sheet .kept .1 .1 .1 .0 ∙ s .before .before .loop .inv .1
 
 same-length-2 : tie.Need-same-length-2 Inv-loop μ-loop
 same-length-2 c = let s = c .before .before .before .before .before .before .before .before .before .before in s .sheet .kept .1 .1 .1 .0 ∙ s .before .before .loop .inv .1
@@ -71,4 +71,4 @@ same-length-3 : tie.Need-same-length-3 Inv-loop μ-loop
 same-length-3 c = let s = c .before .before .before .before .before .before .before .before .before .before .before in s .sheet .kept .1 .1 .1 .0 ∙ s .before .before .loop .inv .1
 
 pub write-sheet-spec : {M : Type 1} → statement M
-write-sheet-spec = tie.close (tie.spec Inv-loop μ-loop loop-holds (λ c κs. search needs) (λ c. search needs) same-length returns (λ c. search needs) (λ c. search needs) (λ c. search needs) part-write-all-end (λ c κs. search needs) (λ c κs. search needs) same-length-2 returns-2 add-n same-length-3 returns-3 loop-less loop-again)
+write-sheet-spec = tie.close (tie.spec Inv-loop μ-loop loop-holds (λ c κs. search needs) (λ c. search needs) (λ c κs. search needs) same-length returns (λ c. search needs) (λ c. search needs) (λ c. search needs) part-write-all-end (λ c κs. search needs) (λ c κs. search needs) same-length-2 returns-2 add-n same-length-3 returns-3 loop-less loop-again)
