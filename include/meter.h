@@ -57,7 +57,7 @@ extern "C" {
 #define METER_REFUSED_BLOCK_LENGTH 3 /* or a title without null */
 #define METER_REFUSED_BLOCK_ORDER 4
 #define METER_REFUSED_UNIT_TYPE 5
-#define METER_REFUSED_PROFILES 6 /* word 1: the number of profiles and their mask */
+#define METER_REFUSED_LAYOUT 6 /* word 1 of a block that has it fixed */
 #define METER_REFUSED_SUB_BLOCK 7
 #define METER_REFUSED_VALUE 8
 #define METER_REFUSED_AFTER_END 9
