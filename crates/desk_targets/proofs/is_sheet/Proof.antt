@@ -1,9 +1,10 @@
 -- `is_sheet` meets its contract: fewer than five bytes are no `unit=`.
-use mathlib.Core.Bool.{true≢false}
+use mathlib.Core.Bool.{true, true≢false}
 use mathlib.Core.Path.{_≡_, sym, ap}
 use native.Mathlib.Omega.{arith}
 use borrow.Author.Needs.{needs}
 use lib.ListN.{length, take, length-take}
+use Rattle.text.specs.Ascii.{ascii}
 use Rattle.desk_targets.specs.Target.{isSheet}
 use Rattle.desk_targets.proofs.TargetLaws.{same-is}
 use Rattle.desk_targets.proofs.is_sheet.Statement.{statement}
@@ -17,7 +18,9 @@ returns c =
 
 returns-2 : tie.Need-returns-2
 unfolding isSheet
-returns-2 c = same-is (c .is-same .ensures)
+returns-2 c =
+    let begins : c .is-same .result ≡ true → take 5 (c .before .before .before .before .before .args .bytes .now) ≡ ascii "unit=" = c .is-same .ensures .0 in
+    same-is (begins, c .is-same .ensures .1)
 
 pub is-sheet-spec : {M : Type 1} → statement M
 is-sheet-spec = tie.close (tie.spec returns (λ c. search needs) (λ c. search needs) (λ c. search needs) (λ c. search needs) (λ c κs. search needs) returns-2)
