@@ -39,7 +39,8 @@ same-back a = record { model = sym (a .model); function = sym (a .function); ban
 -- none of 01 to 05 is due
 record Past (d : Due) : Type 0 where
   one : 6 ≤ d .one
-  other : 6 ≤ d .other
+  two : 6 ≤ d .two
+  three : 6 ≤ d .three
 
 past-either : (t : Bool) {d e : Due} → Past d → Past e → Past (cond t d e)
 past-either true p q = p
@@ -58,7 +59,7 @@ after-past s key h =
     (past-either (eqb key 0x020B) (late 0x040B 0x040B refl) (late endMarker endMarker refl)))))))
   where
     late : (a b : ℕ) → (leb 6 a && leb 6 b) ≡ true → Past (either a b)
-    late a b e = let p = and-both (leb 6 a) (leb 6 b) e in record { one = leb-true 6 a (p .0); other = leb-true 6 b (p .1) }
+    late a b e = let p = and-both (leb 6 a) (leb 6 b) e in record { one = leb-true 6 a (p .0); two = leb-true 6 b (p .1); three = leb-true 6 b (p .1) }
 
 passed-past : (d : Due) → Past d → passedOver d ≡ d
 unfolding passedOver
@@ -66,11 +67,12 @@ passed-past d p = simp (ne-eqb (d .one) 0x01 (λ e. omega (arith, p .one)))
 
 due-late : (d : Due) (key : ℕ) → Past d → isDue d key ≡ true → 6 ≤ key
 unfolding isDue
-due-late d key p e = go (eqb key (d .one)) refl e
+due-late d key p e = go (eqb key (d .one)) (eqb key (d .two)) refl refl e
   where
-    go : (t : Bool) → eqb key (d .one) ≡ t → (t || eqb key (d .other)) ≡ true → 6 ≤ key
-    go true q f = omega (arith, eqb-true key (d .one) q, p .one)
-    go false q f = omega (arith, eqb-true key (d .other) f, p .other)
+    go : (t u : Bool) → eqb key (d .one) ≡ t → eqb key (d .two) ≡ u → (t || (u || eqb key (d .three))) ≡ true → 6 ≤ key
+    go true u q r f = omega (arith, eqb-true key (d .one) q, p .one)
+    go false true q r f = omega (arith, eqb-true key (d .two) r, p .two)
+    go false false q r f = omega (arith, eqb-true key (d .three) f, p .three)
 
 key-low : (w id : ℕ) → ltb id 6 ≡ true → 6 ≤ keyOf w → eqb (low w) id ≡ false
 unfolding keyOf

@@ -12,15 +12,15 @@ use Rattle.file_order.specs.declared.order.Due.{Due}
 unfoldable pub keyOf : ℕ → ℕ
 keyOf w = cond (eqb (low w) 0x0B) w (low w)
 
--- the two that may come next, or the one
+-- what may come next has room for three: the two, or the one
 abbrev pub either : ℕ → ℕ → Due
-either a b = record { one = a; other = b }
+either a b = record { one = a; two = b; three = b }
 
 abbrev pub only : ℕ → Due
 only k = either k k
 
 unfoldable pub isDue : Due → ℕ → Bool
-isDue d k = eqb k (d .one) || eqb k (d .other)
+isDue d k = eqb k (d .one) || (eqb k (d .two) || eqb k (d .three))
 
 -- no listed block has the id 00
 abbrev pub nothing : Due

@@ -3,10 +3,11 @@ use crate::setup::Setup;
 ghost use mathlib.Core.Path.{_≡_};
 ghost use Rattle.file_order.specs.Order.{keyOf, either, only, isDue, passedOver, dueAfterProfiles, dueAfterResults, dueAfter};
 
-// The blocks that may come next, by their keys: one or another; both are the same where only one is due.
+// The blocks that may come next, by their keys. Where fewer than three are due, the last is named again.
 pub struct Due {
     pub one: u16,
-    pub other: u16,
+    pub two: u16,
+    pub three: u16,
 }
 
 // What stands at the end.
@@ -21,10 +22,14 @@ pub fn key_of(header: u16) -> u16
 }
 
 impl Due {
-    fn either(one: u16, other: u16) -> Due
-        ensures { λ r. ⌜ r ≡ either one other ⌝ }
+    fn either(one: u16, two: u16) -> Due
+        ensures { λ r. ⌜ r ≡ either one two ⌝ }
     {
-        Due { one, other }
+        Due {
+            one,
+            two,
+            three: two,
+        }
     }
 
     pub fn only(key: u16) -> Due
@@ -39,7 +44,10 @@ impl Due {
         if key == self.one {
             return true;
         }
-        key == self.other
+        if key == self.two {
+            return true;
+        }
+        key == self.three
     }
 
     // A block that is not listed was passed over: the file header is at word 0 or nowhere.

@@ -1,12 +1,11 @@
 -- The order sentence of the grammar, block by block: what is taken where something is due, and what the grammar lets stand there.
-use mathlib.Core.Bool.{Bool, true, false, cond, _||_, false≢true, or-self, or-true}
+use mathlib.Core.Bool.{Bool, true, false, cond, _||_, false≢true, or-true}
 use mathlib.Core.List.{List, [], _∷_}
 use mathlib.Core.Logic.{inl, inr}
 use mathlib.Core.Path.{_≡_, refl, sym, ap, _∙_}
 use Prim.Native.Nat.{ℕ}
 use native.Mathlib.Omega.{arith}
 use lib.Dec.{eqb}
-use borrow.Author.Tests.{eqb-true}
 use Rattle.words.specs.Words.{low}
 use Rattle.file_walk.specs.Walk.{endMarker, Part}
 use Rattle.file_order.specs.declared.setup.Setup.{Setup}
@@ -14,6 +13,7 @@ use Rattle.file_order.specs.declared.order.Due.{Due}
 use Rattle.file_tables.specs.Table.{rowOf, kindOf}
 use Rattle.file_order.specs.Setup.{noSetup}
 use Rattle.file_order.specs.Order.{either, only, isDue, passedOver, dueAfter, dueAfterProfiles, dueAfterResults}
+use Rattle.file_order.proofs.OrderLaws.{only-due}
 use Rattle.law_grammar.specs.Grammar.{Blocks, knownAfter, End, end, pass, Then, here, Either, Spectrum, Statistics, Measurement, Buffer, Contents, Ordered, ordered}
 use Rattle.law_grammar.proofs.Takes.{wordOf, takes, takes-either, key-listed, taken, listed-takes, takes-passed}
 
@@ -23,8 +23,8 @@ Reads due G = (s : Setup) (ps : List Part) → (takes (due s) s ps ≡ true → 
 
 -- the end of the blocks, where k is due
 due-at-end : (k : ℕ) (s : Setup) → takes (only k) s [] ≡ true → endMarker ≡ k
-unfolding takes isDue
-due-at-end k s e = eqb-true endMarker k (sym (or-self _) ∙ e)
+unfolding takes
+due-at-end k s e = only-due k endMarker e
 
 -- where no listed block is due, none is taken
 takes-none : (k : ℕ) → kindOf (low k) .listed ≡ false → eqb k 0x01 ≡ false → (s : Setup) (ps : List Part) → takes (only k) s ps ≡ true → End s ps × (endMarker ≡ k)

@@ -6,7 +6,7 @@ use Prim.Native.Nat.{ℕ, _+_}
 use native.Mathlib.Omega.{arith}
 use lib.Dec.{eqb}
 use lib.ListN.{getD}
-use borrow.Author.Tests.{eqb-true, eq-eqb}
+use borrow.Author.Tests.{eq-eqb}
 use Rattle.words.specs.Words.{low}
 use Rattle.file_walk.specs.declared.Stop.the-variants.{End, Refused}
 use Rattle.file_walk.specs.Walk.{Walk, over, block, endMarker, Part, partsOf}
@@ -23,6 +23,7 @@ use Rattle.file_tables.specs.Table.{kindOf}
 use Rattle.file_order.specs.Setup.{rowFor, slimOf, learnt, idIn}
 use Rattle.file_order.specs.Order.{keyOf, either, only, isDue, passedOver, dueAfter}
 use Rattle.file_order.proofs.KnownLaws.{row-listed}
+use Rattle.file_order.proofs.OrderLaws.{only-due, only-passes}
 use Rattle.call_check.specs.declared.judge.State.{State}
 use Rattle.call_check.specs.declared.judge.Judged.{Judged}
 use Rattle.call_check.specs.declared.judge.Judged.the-variants.{Passed, Denied}
@@ -123,11 +124,11 @@ module _ (k : ℕ) (s : Setup) (p : Part) (ps : List Part) where
   -- a listed block that is taken
   pub taken : kindOf (low (wordOf p)) .listed ≡ true → takes (only k) s (p ∷ ps) ≡ true
       → Listed k s p × (takes (dueAfter (knownAfter s p) k) (knownAfter s p) ps ≡ true)
-  unfolding takes isDue
+  unfolding takes
   taken l e =
-      let a = and-both (eqb (keyOf (wordOf p)) k || eqb (keyOf (wordOf p)) k) _ (simp l at e) in
+      let a = and-both (isDue (only k) (keyOf (wordOf p))) _ (simp l at e) in
       let b = and-both (good (kept (rowFor s (wordOf p)) (p .words))) _ (a .1) in
-      let key : keyOf (wordOf p) ≡ k = eqb-true _ _ (sym (or-self _) ∙ a .0) in
+      let key : keyOf (wordOf p) ≡ k = only-due k _ (a .0) in
       (record { key-is = key; good = good-is _ (b .0) }, rw key at (b .1))
 
   -- and the other way round
@@ -137,5 +138,5 @@ module _ (k : ℕ) (s : Setup) (p : Part) (ps : List Part) where
 
   -- a block that is not listed is passed over
   pub takes-passed : eqb k 0x01 ≡ false → kindOf (low (wordOf p)) .listed ≡ false → takes (only k) s (p ∷ ps) ≡ takes (only k) s ps
-  unfolding takes passedOver
-  takes-passed q l = simp (l, q)
+  unfolding takes
+  takes-passed q l = simp (l, only-passes k q)
