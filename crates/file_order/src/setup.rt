@@ -93,12 +93,14 @@ impl Setup {
     pub fn row_for(self, header: u16) -> Row
         ensures { λ r. ⌜ r ≡ rowFor self header ⌝ }
     {
-        let id = header % 256;
-        match id {
-            0x0B => histogram_row(self.classes(header / 256)),
-            0x0F => logger_row(self.bands, self.profiles),
-            _ => row_of(self.model, id),
+        let row = row_of(self.model, header % 256);
+        if row.exact {
+            return histogram_row(self.classes(header / 256));
         }
+        if row.logger {
+            return logger_row(self.bands, self.profiles);
+        }
+        row
     }
 
     // What is known after a listed block.

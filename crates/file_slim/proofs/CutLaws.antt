@@ -108,12 +108,12 @@ module _ {r : Row} {b : List ℕ} (c : Cuts r b) where
   exact-words x = ap length (head-alone (c .sound .whole x) ∙ head-exact r b x)
 
   pub text-words : r .exact ≡ false → r .text ≡ true → length (wordsIn (slimBy r b [])) ≡ length (cutText b)
-  text-words x t = ap length (head-alone (c .sound .alone t) ∙ head-text r b x t)
+  text-words x t = ap length (head-alone (c .sound .text t .subs) ∙ head-text r b x t)
 
   -- its least words are some, and fewer than 256
   pub least-some : r .exact ≡ false → 1 ≤ leastOf r b
   unfolding leastOf
-  least-some x = omega (arith, c .sound .some x)
+  least-some x = omega (arith, c .sound .least (c .listed))
 
   pub least-byte : r .exact ≡ false → leastOf r b < 256
   least-byte x = omega (arith, c .long x, c .short x)
@@ -125,9 +125,9 @@ module _ {r : Row} {b : List ℕ} (c : Cuts r b) where
       go zero e = ap length (head-alone e ∙ head-plain r b x t e) ∙ cut-length (leastOf r b) b (least-some x) (c .long x)
       go (suc k) e =
           let some : 0 < r .subs .count = omega arith in
-          let n = records-length (r .subs) (r .subs .count) (drop 2 b) (c .sound .sub-some some) (c .subs) in
+          let n = records-length (r .subs) (r .subs .count) (drop 2 b) (c .sound .parted some .some) (c .subs) in
           let h = ap length (head-subs r b x t (λ z. omega arith)) in
-          slim-length r b ∙ omega (arith, c .sound .sum x t some, c .sound .fixed some b)
+          slim-length r b ∙ omega (arith, c .sound .parted some .sum, c .sound .parted some .fixed b)
 
   -- a slim form is no longer than its block
   pub slim-short : length (wordsIn (slimBy r b [])) ≤ length b

@@ -16,7 +16,8 @@ ghost use lib.ListN.{length, drop};
 ghost use Rattle.words.specs.Words.{wordsOf};
 ghost use Rattle.file_rules.specs.Block.{nulled};
 ghost use Rattle.file_rules.specs.Slim.{counted, cutTo, cutText, slimRecords, headBy, slimBy, wordsIn};
-ghost use Rattle.file_slim.specs.Cut.{WroteWords, HasRoom, Sound, Cuts};
+ghost use Rattle.file_rules.specs.Sound.{Sound};
+ghost use Rattle.file_slim.specs.Cut.{WroteWords, HasRoom, Cuts};
 
 // A word, low byte first.
 pub fn put_word(out: &mut [u8], w: u16) -> usize

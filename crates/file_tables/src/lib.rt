@@ -8,7 +8,7 @@ use file_rules::Subs;
 ghost use mathlib.Core.Path.{_≡_};
 ghost use mathlib.Core.List.{[], _∷_};
 ghost use Prim.Native.Nat.{_+_};
-ghost use Rattle.file_tables.specs.Table.{rule, within, equals, oneOf, eitherOf, also, rules, noSubs, tableRow, row02, row03, row04, row05, row07, row0E, row10, row09, row0B, unlisted, bandRules, row0F, rowOf};
+ghost use Rattle.file_tables.specs.Table.{rule, within, equals, oneOf, eitherOf, also, rules, noSubs, tableRow, unitRow, titleRow, settingsRow, profilesRow, resultsRow, octaveRow, thirdRow, statisticsRow, histogramRow, bandRules, loggerRow, unlisted, inModel, rowOf};
 ghost use Rattle.file_rules.specs.declared.More.the-variants.{Nothing};
 
 // ---- rules and rows
@@ -181,7 +181,7 @@ fn bare(least: usize) -> Row
 
 // Tab. B.1.2, unit and software specification. A 953's has 10 words.
 fn unit() -> Row
-    ensures { λ r. ⌜ r ≡ row02 ⌝ }
+    ensures { λ r. ⌜ r ≡ unitRow ⌝ }
 {
     plain_more(
         6,
@@ -196,7 +196,7 @@ fn unit() -> Row
 
 // Tab. B.1.4, parameters and global settings.
 fn settings(model: u16) -> Row
-    ensures { λ r. ⌜ r ≡ row04 model ⌝ }
+    ensures { λ r. ⌜ r ≡ inModel model settingsRow ⌝ }
 {
     if model == 953 {
         plain(
@@ -221,7 +221,7 @@ fn settings(model: u16) -> Row
 
 // Tab. B.1.3, user's text.
 fn title() -> Row
-    ensures { λ r. ⌜ r ≡ row03 ⌝ }
+    ensures { λ r. ⌜ r ≡ titleRow ⌝ }
 {
     let mut r = bare(2);
     r.text = true;
@@ -230,7 +230,7 @@ fn title() -> Row
 
 // Tab. B.1.5, special settings for profiles. Count 3 and mask 7 in word 1 of 05 and 07; mask 7 and count 3 in word 1 of 09.
 fn profiles(model: u16) -> Row
-    ensures { λ r. ⌜ r ≡ row05 model ⌝ }
+    ensures { λ r. ⌜ r ≡ inModel model profilesRow ⌝ }
 {
     let head = one(equals(1, 0x0307, 6));
     if model == 953 {
@@ -250,7 +250,7 @@ fn profiles(model: u16) -> Row
 
 // Tab. B.1.6, main results.
 fn results(model: u16) -> Row
-    ensures { λ r. ⌜ r ≡ row07 model ⌝ }
+    ensures { λ r. ⌜ r ≡ inModel model resultsRow ⌝ }
 {
     let head = one(equals(1, 0x0307, 6));
     if model == 953 {
@@ -262,7 +262,7 @@ fn results(model: u16) -> Row
 
 // Tab. B.1.7, 1/1 octave analysis.
 fn octave(model: u16) -> Row
-    ensures { λ r. ⌜ r ≡ row0E model ⌝ }
+    ensures { λ r. ⌜ r ≡ inModel model octaveRow ⌝ }
 {
     let head = equals(1, 0x0101, 6);
     if model == 953 {
@@ -286,7 +286,7 @@ fn octave(model: u16) -> Row
 
 // Tab. B.1.8, 1/3 octave analysis.
 fn third() -> Row
-    ensures { λ r. ⌜ r ≡ row10 ⌝ }
+    ensures { λ r. ⌜ r ≡ thirdRow ⌝ }
 {
     plain(
         53,
@@ -301,14 +301,14 @@ fn third() -> Row
 
 // Tab. B.1.12, statistics header.
 fn statistics() -> Row
-    ensures { λ r. ⌜ r ≡ row09 ⌝ }
+    ensures { λ r. ⌜ r ≡ statisticsRow ⌝ }
 {
     with_subs(14, one(equals(1, 0x0703, 6)), three_bare(0x0A, 4))
 }
 
 // Tab. B.1.13, statistics. The long form is allowed.
 pub fn histogram_row(classes: u16) -> Row
-    ensures { λ r. ⌜ r ≡ row0B classes ⌝ }
+    ensures { λ r. ⌜ r ≡ histogramRow classes ⌝ }
 {
     let mut r = bare(2 * (classes as usize) + 2);
     r.exact = true;
@@ -328,7 +328,7 @@ fn band_rules(bands: u16) -> Rules
 
 // Tab. B.1.16, header of the file from the buffer, before records of `width` levels.
 pub fn logger_row(bands: u16, profiles: u16) -> Row
-    ensures { λ r. ⌜ r ≡ row0F (bandRules bands) (profiles + bands) ⌝ }
+    ensures { λ r. ⌜ r ≡ loggerRow (bandRules bands) (profiles + bands) ⌝ }
 {
     let mut r = plain(8, band_rules(bands));
     r.logger = true;

@@ -19,7 +19,7 @@ use Rattle.file_rules.specs.declared.Row.{Row}
 use Rattle.file_rules.specs.declared.Tested.{Tested}
 use Rattle.file_rules.specs.declared.Tested.the-variants.{Good, Bad}
 use Rattle.file_rules.specs.Block.{allows, inForce, moreOf, leastOf, obeyed, ruled, wholeRecords, buffered}
-use Rattle.law_sound.proofs.SoundRows.{among, looks, counts, asks, inside}
+use Rattle.file_rules.specs.Sound.{among, looks, counts, asks, inside}
 
 -- from word 1 up to word n
 pub record Agree (n : ℕ) (b b′ : List ℕ) : Type 0 where
@@ -55,7 +55,8 @@ module _ {n : ℕ} {b b′ : List ℕ} (a : Agree n b b′) where
       let p = and-both (asks n r) (inside n rs) i in
       let q = and-both (among n (r .off)) _ (p .0) in
       let l = and-both (looks n (r .kind)) _ (q .1) in
-      rw (in-force r (l .1), among-agree (r .off) (q .0), allows-agree (r .kind) (l .0) (getD b (r .off) 0), ruled-agree rs (p .1))
+      let f = and-both (eqb (r .from) 0 || ltb 3 n) _ (l .1) in
+      rw (in-force r (f .0), among-agree (r .off) (q .0), allows-agree (r .kind) (l .0) (getD b (r .off) 0), ruled-agree rs (p .1))
 
   -- how many words there are at least
   more-agree : (m : More) → counts n m ≡ true → moreOf m b′ ≡ moreOf m b

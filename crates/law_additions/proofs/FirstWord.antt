@@ -21,14 +21,14 @@ module _ (h h′ : ℕ) (same : low h′ ≡ low h) (x : kindOf (low h) .exact �
 
   pub same-row : (s : Setup) → rowFor s h′ ≡ rowFor s h
   unfolding rowFor
-  same-row s = simp (same, ne-eqb (low h) 0x0B no-histogram)
+  same-row s = simp (same, x)
 
   pub same-key : keyOf h′ ≡ keyOf h
   unfolding keyOf
   same-key = simp (same, ne-eqb (low h) 0x0B no-histogram)
 
 pub logger-row : (s : Setup) (h : ℕ) → low h ≡ 0x0F → rowFor s h .logger ≡ true
-unfolding rowFor
+unfolding rowFor rowOf
 logger-row s h e = rw e
 
 -- a listed block whose count is its length

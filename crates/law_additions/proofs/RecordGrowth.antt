@@ -13,7 +13,7 @@ use Rattle.file_rules.specs.declared.Tested.the-variants.{Good}
 use Rattle.file_rules.specs.Block.{then, offsetBy, rulesIn, recorded, records}
 use Rattle.file_rules.specs.Slim.{counted, cutTo, slimRecords}
 use Rattle.file_rules.proofs.BlockLaws.{then-good, offset-good, Recorded, recorded-says}
-use Rattle.law_sound.proofs.SoundRows.{inside}
+use Rattle.file_rules.specs.Sound.{inside}
 use Rattle.law_additions.specs.Additions.{recounted, Records, rest, next}
 use Rattle.law_additions.proofs.Agreeing.{Agree, ruled-agree}
 

@@ -16,12 +16,12 @@ use Rattle.file_rules.specs.declared.Row.{Row}
 use Rattle.file_rules.specs.declared.Tested.the-variants.{Good}
 use Rattle.file_rules.specs.Block.{leastOf, rulesIn, sized, readable, kept}
 use Rattle.file_rules.specs.Slim.{counted, cutTo, slimRecords, headBy, slimBy}
+use Rattle.file_rules.specs.Sound.{frontWords}
 use Rattle.file_rules.proofs.BlockLaws.{Kept, kept-says, says-kept, kept-least, kept-full, full-filled}
 use Rattle.file_order.specs.declared.setup.Setup.{Setup}
 use Rattle.file_tables.specs.Table.{kindOf}
 use Rattle.file_order.specs.Setup.{rowFor, slimOf}
-use Rattle.file_order.proofs.KnownLaws.{row-exact, row-text, row-subs}
-use Rattle.law_sound.proofs.SoundRows.{frontWords, each-sound}
+use Rattle.file_order.proofs.KnownLaws.{each-sound, row-exact, row-text, row-subs}
 use Rattle.law_additions.specs.Additions.{mayGrow, Records, rest, next}
 use Rattle.law_additions.proofs.Agreeing.{Agree, ruled-agree, least-agree, buffered-agree, raw-agree}
 use Rattle.law_additions.proofs.RecordGrowth.{counted-low, counted-high, records-grow, records-length}

@@ -14,12 +14,12 @@ use Rattle.file_rules.specs.declared.Row.{Row}
 use Rattle.file_rules.specs.declared.Tested.the-variants.{Good}
 use Rattle.file_rules.specs.Block.{leastOf, ruled, rulesIn, records, sized, nulled, readable, buffered, kept}
 use Rattle.file_rules.specs.Slim.{counted, cutText, slimRecords, headBy, slimBy}
+use Rattle.file_rules.specs.Sound.{Text}
 use Rattle.file_rules.proofs.BlockLaws.{says-kept, full-filled}
 use Rattle.file_order.specs.declared.setup.Setup.{Setup}
 use Rattle.file_tables.specs.Table.{kindOf}
 use Rattle.file_order.specs.Setup.{rowFor, slimOf}
-use Rattle.file_order.proofs.KnownLaws.{row-exact, row-text}
-use Rattle.law_sound.proofs.SoundRows.{Text, each-sound}
+use Rattle.file_order.proofs.KnownLaws.{each-sound, row-exact, row-text}
 use Rattle.law_additions.specs.Additions.{isText}
 use Rattle.law_additions.proofs.RecordGrowth.{counted-low, counted-high}
 use Rattle.law_additions.proofs.TextGrowth.{nulled-some, text-same}

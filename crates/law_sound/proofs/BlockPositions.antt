@@ -15,8 +15,8 @@ use Rattle.file_rules.specs.declared.Row.{Row}
 use Rattle.file_rules.specs.declared.Tested.{Tested}
 use Rattle.file_rules.specs.declared.Tested.the-variants.{Good, Bad}
 use Rattle.file_rules.specs.Block.{then, offsetBy, allows, inForce, leastOf, filled, obeyed, ruled, rulesIn, recorded, records, sized, readable, wholeRecords, buffered, kept}
+use Rattle.file_rules.specs.Sound.{among, asks, inside, frontWords, Sound}
 use Rattle.file_rules.proofs.BlockLaws.{recorded-says, sized-least}
-use Rattle.law_sound.proofs.SoundRows.{among, asks, inside, frontWords, Sound}
 
 -- a refusal, if it is one, is at word n at most
 pub data Upto (n : ℕ) : Tested → Type 0 where

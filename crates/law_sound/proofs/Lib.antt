@@ -1,4 +1,3 @@
 -- What holds of any block and any row of the tables.
-pub mod SoundRows
 pub mod BlockPositions
 pub mod Positions

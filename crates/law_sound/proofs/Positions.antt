@@ -19,13 +19,13 @@ use Rattle.file_rules.specs.declared.Tested.{Tested}
 use Rattle.file_rules.specs.Block.{offsetBy}
 use Rattle.file_order.specs.Setup.{rowFor}
 use Rattle.file_order.specs.Order.{keyOf, isDue}
+use Rattle.file_order.proofs.KnownLaws.{each-sound}
 use Rattle.call_check.specs.declared.judge.State.{State}
 use Rattle.call_check.specs.declared.judge.Judged.{Judged}
 use Rattle.call_check.specs.declared.judge.Judged.the-variants.{Passed, Denied}
 use Rattle.call_check.specs.Judge.{firstState, skipped, enteredBy, testedBy, judgedBy, seenBy, seenIn, closed, judge, misfit, surveyed}
 use Rattle.call_check.proofs.Seen.{no-denied}
 use Rattle.call_check.proofs.Turns.{judge-pass, judge-deny}
-use Rattle.law_sound.proofs.SoundRows.{each-sound}
 use Rattle.law_sound.proofs.BlockPositions.{Upto, good, bad, cond-upto, offset-upto, kept-upto}
 
 -- a block against the state

@@ -2,11 +2,11 @@
 use borrow.Author.Tests.{not-true, not-false}
 use mathlib.Core.Path.{sym, ap, subst⁻¹, _∙_}
 use Rattle.words.specs.Words.{wordsOf}
-use Rattle.file_rules.specs.Block.{Small}
+use Rattle.file_rules.specs.Sound.{Sound}
 use Rattle.file_order.specs.Setup.{rowFor}
 use Rattle.file_order.specs.Order.{keyOf, isDue}
 use Rattle.call_check.specs.declared.judge.Judged.the-variants.{Passed}
-use Rattle.file_order.proofs.KnownLaws.{row-small}
+use Rattle.file_order.proofs.KnownLaws.{each-sound}
 use Rattle.call_check.proofs.Turns.{seen-skip, seen-order, seen-good, seen-bad}
 use borrow.Author.Needs.{needs}
 use Rattle.call_check.proofs.judge.State.seen.Statement.{statement}
@@ -36,7 +36,7 @@ keeps-requires c κs =
     let a = f .before .before .before .args in
     let b = wordsOf (a .b .now) in
     let e = f .row-for .ensures ∙ ap (rowFor (a .self .setup)) (f .before .word .ensures) in
-    (search needs, subst⁻¹ Small e (row-small (a .self .setup) _))
+    (search needs, subst⁻¹ Sound e (each-sound (a .self .setup) _))
 
 returns-3 : tie.Need-returns-3
 returns-3 c =
