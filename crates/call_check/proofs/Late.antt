@@ -1,21 +1,23 @@
 -- After 05 no block changes the model, the function, or what a buffer record holds: what such a block is read by is what is known
 -- at the end of an accepted file.
-use mathlib.Core.Bool.{Bool, true, false, cond, _&&_, _||_}
-use mathlib.Core.List.{List, []}
+use mathlib.Core.Bool.{Bool, true, false, cond, _||_, or-true}
+use mathlib.Core.List.{List, [], _∷_}
 use mathlib.Core.Path.{_≡_, refl, sym, subst, _∙_}
 use Prim.Native.Nat.{ℕ, _≤_}
 use native.Mathlib.Omega.{arith}
 use lib.Dec.{eqb, leb, ltb}
 use lib.ListN.{getD}
-use borrow.Author.Tests.{eqb-true, ne-eqb, leb-true, ltb-true}
+use borrow.Author.Tests.{eqb-true, ne-eqb, leb-true, ltb-true, le-ltb}
 use Rattle.words.specs.Words.{low}
-use Rattle.words.proofs.Choice.{and-both}
-use Rattle.file_walk.specs.Walk.{endMarker, Walk, over, block}
+use Rattle.file_rules.specs.Sound.{every}
+use Rattle.file_rules.proofs.SoundRows.{said}
+use Rattle.file_walk.specs.Walk.{Walk, over, block}
 use Rattle.file_order.specs.declared.setup.Setup.{Setup}
 use Rattle.file_order.specs.declared.order.Due.{Due}
 use Rattle.file_order.specs.Setup.{slimOf, learnt}
-use Rattle.file_order.specs.Order.{keyOf, either, isDue, passedOver, dueAfter, dueAfterResults}
+use Rattle.file_order.specs.Order.{keyOf, isDue, passedOver, dueAfterProfiles, dueAfterResults, dueAfter}
 use Rattle.file_order.proofs.KnownLaws.{id-in}
+use Rattle.file_order.proofs.OrderLaws.{after-passes}
 use Rattle.call_check.specs.declared.judge.State.{State}
 use Rattle.call_check.specs.declared.judge.Judged.{Judged}
 use Rattle.call_check.specs.declared.judge.Judged.the-variants.{Passed, Denied}
@@ -42,24 +44,15 @@ record Past (d : Due) : Type 0 where
   two : 6 ≤ d .two
   three : 6 ≤ d .three
 
-past-either : (t : Bool) {d e : Due} → Past d → Past e → Past (cond t d e)
-past-either true p q = p
-past-either false p q = q
+abbrev pastTests : Due → List Bool
+pastTests d = leb 6 (d .one) ∷ leb 6 (d .two) ∷ leb 6 (d .three) ∷ []
 
 -- after every block from 07 on
 after-past : (s : Setup) (key : ℕ) → 6 ≤ key → Past (dueAfter s key)
-unfolding dueAfter dueAfterResults
+unfolding dueAfterProfiles dueAfterResults
 after-past s key h =
-    simp (ne-eqb key 0x01 (λ e. omega arith), ne-eqb key 0x02 (λ e. omega arith), ne-eqb key 0x03 (λ e. omega arith), ne-eqb key 0x04 (λ e. omega arith), ne-eqb key 0x05 (λ e. omega arith))
-    (past-either (eqb key 0x07) (past-either (eqb (s .function) 2) (late 0x0E 0x0E refl) (past-either (eqb (s .function) 3) (late 0x10 0x10 refl) (late 0x09 endMarker refl)))
-    (past-either (eqb key 0x0E) (late 0x09 endMarker refl)
-    (past-either (eqb key 0x10) (late 0x09 endMarker refl)
-    (past-either (eqb key 0x09) (late 0x010B 0x010B refl)
-    (past-either (eqb key 0x010B) (late 0x020B 0x020B refl)
-    (past-either (eqb key 0x020B) (late 0x040B 0x040B refl) (late endMarker endMarker refl)))))))
-  where
-    late : (a b : ℕ) → (leb 6 a && leb 6 b) ≡ true → Past (either a b)
-    late a b e = let p = and-both (leb 6 a) (leb 6 b) e in record { one = leb-true 6 a (p .0); two = leb-true 6 b (p .1); three = leb-true 6 b (p .1) }
+    let t = said (pastTests (dueAfter s key)) (rw (le-ltb key 6 h) at (after-passes (λ k d. ltb k 6 || every (pastTests d)) refl s key (or-true (ltb key 6)))) in
+    record { one = leb-true 6 _ (t 0); two = leb-true 6 _ (t 1); three = leb-true 6 _ (t 2) }
 
 passed-past : (d : Due) → Past d → passedOver d ≡ d
 unfolding passedOver

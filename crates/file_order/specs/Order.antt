@@ -1,10 +1,12 @@
 -- The order of the listed blocks (document 01, Walking the blocks): after each block, what is due.
 use mathlib.Core.Bool.{Bool, cond, _||_}
+use mathlib.Core.List.{List, [], _∷_}
 use Prim.Native.Nat.{ℕ}
 use lib.Dec.{eqb}
 use Rattle.words.specs.Words.{low}
 use Rattle.file_walk.specs.Walk.{endMarker}
 use Rattle.file_models.specs.Models.{columns}
+use Rattle.file_models.specs.Lists.{lookup}
 use Rattle.file_order.specs.declared.setup.Setup.{Setup}
 use Rattle.file_order.specs.declared.order.Due.{Due}
 
@@ -39,18 +41,22 @@ unfoldable pub dueAfterProfiles : ℕ → Due
 dueAfterProfiles model = columns model (either 0x0F 0x07) (only 0x07)
 
 -- "01 (at word 0), 02, 03, 04, 05; then either 0F with its contents, or 07, .. then optionally 09 followed by three 0B with nn
--- 01, 02, 04. Then the end marker"
+-- 01, 02, 04. Then the end marker": each key, and what is due after it
+abbrev pub order : Setup → List (ℕ × Due)
+order s =
+    (0x01, only 0x02)
+    ∷ (0x02, only 0x03)
+    ∷ (0x03, only 0x04)
+    ∷ (0x04, only 0x05)
+    ∷ (0x05, dueAfterProfiles (s .model))
+    ∷ (0x07, dueAfterResults (s .function))
+    ∷ (0x0E, either 0x09 endMarker)
+    ∷ (0x10, either 0x09 endMarker)
+    ∷ (0x09, only 0x010B)
+    ∷ (0x010B, only 0x020B)
+    ∷ (0x020B, only 0x040B)
+    ∷ []
+
+-- after any other block the end marker is due
 unfoldable pub dueAfter : Setup → ℕ → Due
-dueAfter s key =
-    cond (eqb key 0x01) (only 0x02)
-    (cond (eqb key 0x02) (only 0x03)
-    (cond (eqb key 0x03) (only 0x04)
-    (cond (eqb key 0x04) (only 0x05)
-    (cond (eqb key 0x05) (dueAfterProfiles (s .model))
-    (cond (eqb key 0x07) (dueAfterResults (s .function))
-    (cond (eqb key 0x0E) (either 0x09 endMarker)
-    (cond (eqb key 0x10) (either 0x09 endMarker)
-    (cond (eqb key 0x09) (only 0x010B)
-    (cond (eqb key 0x010B) (only 0x020B)
-    (cond (eqb key 0x020B) (only 0x040B)
-    (only endMarker)))))))))))
+dueAfter s key = lookup (only endMarker) (order s) key

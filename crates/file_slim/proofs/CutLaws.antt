@@ -125,9 +125,9 @@ module _ {r : Row} {b : List ℕ} (c : Cuts r b) where
       go zero e = ap length (head-alone e ∙ head-plain r b x t e) ∙ cut-length (leastOf r b) b (least-some x) (c .long x)
       go (suc k) e =
           let some : 0 < r .subs .count = omega arith in
-          let n = records-length (r .subs) (r .subs .count) (drop 2 b) (c .sound .parted some .some) (c .subs) in
+          let n = records-length (r .subs) (r .subs .count) (drop 2 b) (c .sound .some some) (c .subs) in
           let h = ap length (head-subs r b x t (λ z. omega arith)) in
-          slim-length r b ∙ omega (arith, c .sound .parted some .sum, c .sound .parted some .fixed b)
+          slim-length r b ∙ omega (arith, c .sound .sum some, c .sound .fixed some b)
 
   -- a slim form is no longer than its block
   pub slim-short : length (wordsIn (slimBy r b [])) ≤ length b
