@@ -4,27 +4,17 @@ use mathlib.Core.List.{List}
 use mathlib.Core.Path.{_≡_, refl, sym, ap, _∙_}
 use Prim.Native.Nat.{ℕ}
 use lib.Dec.{eqb}
-use lib.ListN.{length, getD}
+use lib.ListN.{length, getD, drop}
 use Rattle.call_check.specs.declared.check.Answer.{Answer}
 use Rattle.call_check.specs.declared.check.Answer.the-variants.{Accepted, Refused}
+use Rattle.call_check.specs.Starts.{startsOf}
 use Rattle.call_check.specs.Check.{verdict, values, Checked}
 
 -- an answer, read back from its values
 unfoldable answerOf : List ℕ → Answer
 answerOf vs =
     cond (eqb (length vs) 2) (Refused (getD vs 0 0) (getD vs 1 0))
-    (Accepted (record {
-      function = getD vs 1 0;
-      file = getD vs 2 0;
-      unit = getD vs 3 0;
-      title = getD vs 4 0;
-      setup = getD vs 5 0;
-      profiles = getD vs 6 0;
-      results = getD vs 7 0;
-      spectrum = getD vs 8 0;
-      statistics = getD vs 9 0;
-      logger = getD vs 10 0;
-    }))
+    (Accepted (record { function = getD vs 1 0; starts = startsOf (drop 2 vs) }))
 
 read-back : (a : Answer) → answerOf (values a) ≡ a
 unfolding answerOf values

@@ -14,11 +14,12 @@ use Rattle.file_walk.specs.declared.Cursor.{Cursor}
 use Rattle.file_walk.specs.declared.Stop.{Stop}
 use Rattle.file_walk.specs.declared.Stop.the-variants.{Refused}
 use Rattle.file_walk.specs.declared.Step.the-variants.{Block, Over}
-use Rattle.file_walk.specs.Walk.{cut, frontOf, rawOf, stepAt, Walk, over, block, walk, Part, partsOf}
+use Rattle.file_walk.specs.Walk.{endMarker, cut, frontOf, rawOf, stepAt, Walk, over, block, walk, Part, partsOf}
 use Rattle.file_walk.proofs.Steps.{walkFrom, walk-start, walk-over, walk-block, step-block}
 use Rattle.file_rules.specs.Slim.{Slim}
 use Rattle.file_order.specs.declared.setup.Setup.{Setup}
 use Rattle.file_order.specs.Setup.{noSetup}
+use Rattle.file_order.specs.Order.{isDue}
 use Rattle.file_order.proofs.KnownLaws.{learnt-raw}
 use Rattle.call_check.specs.declared.judge.State.{State}
 use Rattle.call_check.specs.declared.judge.Judged.{Judged}
@@ -27,7 +28,7 @@ use Rattle.call_check.specs.Judge.{firstState, skipped, entered, entered
 use Rattle.call_check.specs.Slims.{slimPart, knownFrom, slims, slimsIn}
 use Rattle.file_read.specs.Read.{partAt}
 use Rattle.call_check.proofs.Turns.{judge-pass, judge-deny}
-use Rattle.call_check.proofs.Seen.{no-denied, Through, unlisted, listed, seen-through}
+use Rattle.call_check.proofs.Seen.{no-denied, Through, unlisted, listed, seen-through, closed-due}
 
 pub refused : (s s′ : State) (num p : ℕ) → judge s (over (Refused num p)) ≡ Passed s′ → ⊥
 unfolding judge closed
@@ -125,41 +126,46 @@ onward-over {ws} {c} {known} {xs} o stop q = go (o .fuel) (o .goes) (o .left)
     go zero e l = absurd (no-fuel ws (o .state) (o .last) c e)
     go (suc m) e l = sym l ∙ slims-over m ws c known stop q
 
--- a block, and what is left after it
-pub record Over-block (ws : List ℕ) (known : Setup) (xs : List Slim) (start len : ℕ) (next : Cursor) : Type 0 where
-  pub fuel : ℕ
-  pub before : State
-  pub before-is : before .setup ≡ known
-  pub last : State
-  pub passes : Passes ws fuel before last start len next
-  pub more : List Slim
-  pub split : xs ≡ slimPart known (partAt ws start len) ++ more
-  pub on : Onward ws next (knownFrom known (partAt ws start len)) more
+module _ {ws : List ℕ} {c : Cursor} {known : Setup} {xs : List Slim} (o : Onward ws c known xs) where
+  -- a block, and what is left after it
+  pub record Over-block (start len : ℕ) (next : Cursor) : Type 0 where
+    pub fuel : ℕ
+    pub passes : Passes ws fuel (o .state) (o .last) start len next
+    pub more : List Slim
+    pub split : xs ≡ slimPart known (partAt ws start len) ++ more
+    pub on : Onward ws next (knownFrom known (partAt ws start len)) more
+    pub state-is : on .state ≡ passes .state
 
-pub onward-block : {ws : List ℕ} {c : Cursor} {known : Setup} {xs : List Slim} → Onward ws c known xs → (id nn start len : ℕ) (next : Cursor) → stepAt ws c ≡ Block id nn start len next
-    → Over-block ws known xs start len next
-unfolding partAt
-onward-block {ws} {c} {known} {xs} o id nn start len next q = go (o .fuel) (o .goes) (o .left)
-  where
-    go : (m : ℕ) → judge (o .state) (walkFrom m ws c) ≡ Passed (o .last) → slims known (partsOf (walkFrom m ws c)) ≡ xs → Over-block ws known xs start len next
-    go zero e l = absurd (no-fuel ws (o .state) (o .last) c e)
-    go (suc m) e l =
-        let p = passes ws m c (o .state) (o .last) id nn start len next q e in
-        record {
-          fuel = m;
-          before = o .state;
-          before-is = o .known-is;
-          last = o .last;
-          passes = p;
-          more = slims (knownFrom known (partAt ws start len)) (partsOf (walkFrom m ws next));
-          split = sym l ∙ slims-block m ws c known id nn start len next q;
-          on =
-              record {
-                fuel = m;
-                state = p .state;
-                last = o .last;
-                goes = p .goes;
-                known-is = known-through (o .state) (p .state) start (partAt ws start len) (p .through) ∙ ap (λ (k : Setup). knownFrom k (partAt ws start len)) (o .known-is);
-                left = refl;
-              };
-        }
+  pub onward-block : (id nn start len : ℕ) (next : Cursor) → stepAt ws c ≡ Block id nn start len next → Over-block start len next
+  unfolding partAt
+  onward-block id nn start len next q = go (o .fuel) (o .goes) (o .left)
+    where
+      go : (m : ℕ) → judge (o .state) (walkFrom m ws c) ≡ Passed (o .last) → slims known (partsOf (walkFrom m ws c)) ≡ xs → Over-block start len next
+      go zero e l = absurd (no-fuel ws (o .state) (o .last) c e)
+      go (suc m) e l =
+          let p = passes ws m c (o .state) (o .last) id nn start len next q e in
+          record {
+            fuel = m;
+            passes = p;
+            more = slims (knownFrom known (partAt ws start len)) (partsOf (walkFrom m ws next));
+            split = sym l ∙ slims-block m ws c known id nn start len next q;
+            on =
+                record {
+                  fuel = m;
+                  state = p .state;
+                  last = o .last;
+                  goes = p .goes;
+                  known-is = known-through (o .state) (p .state) start (partAt ws start len) (p .through) ∙ ap (λ (k : Setup). knownFrom k (partAt ws start len)) (o .known-is);
+                  left = refl;
+                };
+            state-is = refl;
+          }
+
+  -- at the end the end marker is due
+  pub onward-end : (stop : Stop) → stepAt ws c ≡ Over stop → isDue (o .state .due) endMarker ≡ true
+  unfolding judge
+  onward-end stop q = go (o .fuel) (o .goes)
+    where
+      go : (m : ℕ) → judge (o .state) (walkFrom m ws c) ≡ Passed (o .last) → isDue (o .state .due) endMarker ≡ true
+      go zero e = absurd (no-fuel ws (o .state) (o .last) c e)
+      go (suc m) e = closed-due (o .state) (o .last) stop (sym (ap (judge (o .state)) (walk-over m ws c stop q)) ∙ e)

@@ -59,3 +59,9 @@ closed-passed s s′ (End at left) e =
     let q = cond-first (eqb left 0) (p .1) no-denied in
     passed-same (q .1)
 closed-passed s s′ (Refused num at) e = absurd (no-denied e)
+
+-- at the end of an accepted file the end marker is due
+pub closed-due : (s s′ : State) (stop : Stop) → closed s stop ≡ Passed s′ → isDue (s .due) endMarker ≡ true
+unfolding closed
+closed-due s s′ (End at left) e = cond-first (isDue (s .due) endMarker) e no-denied .0
+closed-due s s′ (Refused num at) e = absurd (no-denied e)

@@ -8,23 +8,12 @@ use Rattle.call_check.specs.declared.judge.Judged.the-variants.{Passed, 
 use Rattle.call_check.specs.declared.check.Outline.{Outline}
 use Rattle.call_check.specs.declared.check.Answer.{Answer}
 use Rattle.call_check.specs.declared.check.Answer.the-variants.{Accepted, Refused}
+use Rattle.call_check.specs.Starts.{startsIn}
 use Rattle.call_check.specs.Judge.{surveyed}
 
 -- "The record holds the function, and the start word of each of 01, 02, 03, 04, 05, 07, spectrum (0E or 10), 09 and 0F"
 unfoldable pub outlineOf : State → Outline
-outlineOf s =
-    record {
-      function = s .setup .function;
-      file = s .starts .file;
-      unit = s .starts .unit;
-      title = s .starts .title;
-      setup = s .starts .setup;
-      profiles = s .starts .profiles;
-      results = s .starts .results;
-      spectrum = s .starts .spectrum;
-      statistics = s .starts .statistics;
-      logger = s .starts .logger;
-    }
+outlineOf s = record { function = s .setup .function; starts = s .starts }
 
 unfoldable pub answered : Judged → Answer
 answered (Passed s) = Accepted (outlineOf s)
@@ -37,8 +26,7 @@ verdict file = answered (surveyed file)
 -- document 01's numbers and values for each answer: a refusal's number and position; for an acceptance 0, which is no
 -- refusal's number, the function and the nine starts
 unfoldable pub values : Answer → List ℕ
-values (Accepted r) =
-    0 ∷ (r .function ∷ (r .file ∷ (r .unit ∷ (r .title ∷ (r .setup ∷ (r .profiles ∷ (r .results ∷ (r .spectrum ∷ (r .statistics ∷ (r .logger ∷ []))))))))))
+values (Accepted r) = 0 ∷ (r .function ∷ startsIn (r .starts))
 values (Refused num at) = num ∷ (at ∷ [])
 
 -- the promise of Check: its answer has the number and the values of the verdict

@@ -4,7 +4,7 @@ use mathlib.Core.List.{List, []}
 use Prim.Native.Nat.{ℕ, _+_, _%_, _<_}
 use lib.Dec.{eqb, ltb}
 use lib.ListN.{length, getD, take, drop}
-use Rattle.words.specs.Words.{wordsOf}
+use Rattle.words.specs.Words.{low, wordsOf}
 use Rattle.file_walk.specs.declared.Step.{Step}
 use Rattle.file_walk.specs.declared.Step.the-variants.{Block, Over}
 use Rattle.file_walk.specs.declared.Stop.{Stop}
@@ -16,55 +16,12 @@ use Rattle.file_rules.specs.declared.Tested.the-variants.{Good, Bad}
 use Rattle.file_rules.specs.Block.{kept, offsetBy}
 use Rattle.file_order.specs.declared.setup.Setup.{Setup}
 use Rattle.file_order.specs.declared.order.Due.{Due}
-use Rattle.call_check.specs.declared.judge.Starts.{Starts}
 use Rattle.call_check.specs.declared.judge.State.{State}
 use Rattle.call_check.specs.declared.judge.Judged.{Judged}
 use Rattle.call_check.specs.declared.judge.Judged.the-variants.{Passed, Denied}
 use Rattle.file_order.specs.Setup.{noSetup, slimOf, learnt, rowFor}
 use Rattle.file_order.specs.Order.{keyOf, only, isDue, passedOver, dueAfter}
-
--- "65,535 stands for an absent block"
-abbrev pub absent : ℕ
-absent = 65535
-
-abbrev pub noStarts : Starts
-noStarts =
-    record {
-      file = absent;
-      unit = absent;
-      title = absent;
-      setup = absent;
-      profiles = absent;
-      results = absent;
-      spectrum = absent;
-      statistics = absent;
-      counts1 = absent;
-      counts2 = absent;
-      counts3 = absent;
-      logger = absent;
-    }
-
--- where a start is noted: 0E and 10 have one place, "spectrum (0E or 10)"
-unfoldable pub placeOf : ℕ → ℕ
-placeOf key = cond (eqb key 0x10) 0x0E key
-
--- the start of a block, at its place
-unfoldable pub noted : Starts → ℕ → ℕ → Starts
-noted s place at =
-    record {
-      file = cond (eqb place 0x01) at (s .file);
-      unit = cond (eqb place 0x02) at (s .unit);
-      title = cond (eqb place 0x03) at (s .title);
-      setup = cond (eqb place 0x04) at (s .setup);
-      profiles = cond (eqb place 0x05) at (s .profiles);
-      results = cond (eqb place 0x07) at (s .results);
-      spectrum = cond (eqb place 0x0E) at (s .spectrum);
-      statistics = cond (eqb place 0x09) at (s .statistics);
-      counts1 = cond (eqb place 0x010B) at (s .counts1);
-      counts2 = cond (eqb place 0x020B) at (s .counts2);
-      counts3 = cond (eqb place 0x040B) at (s .counts3);
-      logger = cond (eqb place 0x0F) at (s .logger);
-    }
+use Rattle.call_check.specs.Starts.{noStarts, noted}
 
 abbrev pub firstState : State
 firstState = record { due = only 0x01; setup = noSetup; starts = noStarts }
@@ -75,7 +32,7 @@ skipped s = record { due = passedOver (s .due); setup = s .setup; starts = s .st
 
 -- a listed block that starts at word `at` has been there, and this is known now
 unfoldable pub entered : State → ℕ → ℕ → Setup → State
-entered s key at known = record { due = dueAfter known key; setup = known; starts = noted (s .starts) (placeOf key) at }
+entered s key at known = record { due = dueAfter known key; setup = known; starts = noted (s .starts) (low key) at }
 
 -- the same by the block's own words; no state depends on raw contents
 unfoldable pub enteredBy : State → ℕ → List ℕ → State

@@ -1,3 +1,4 @@
+pub mod Starts
 pub mod Judge
 pub mod Check
 pub mod Slims

@@ -6,13 +6,11 @@ use lib.Dec.{eqb}
 use lib.ListN.{getD}
 use Rattle.words.specs.Words.{low, wordsOf}
 use Rattle.file_walk.specs.Walk.{Part, partsOf, walked}
-use Rattle.file_rules.specs.Slim.{Slim, wordIn}
-use Rattle.call_check.specs.declared.judge.Starts.{Starts}
+use Rattle.file_rules.specs.Slim.{Slim}
 use Rattle.file_order.specs.declared.setup.Setup.{Setup}
 use Rattle.file_tables.specs.Table.{kindOf}
-use Rattle.file_order.specs.Setup.{noSetup, slimOf, learnt}
-use Rattle.file_order.specs.Order.{keyOf}
-use Rattle.call_check.specs.Judge.{absent, placeOf}
+use Rattle.file_order.specs.Setup.{noSetup, slimOf, learnt, idIn}
+use Rattle.call_check.specs.Starts.{placeOf}
 
 -- a listed block in its slim form, by what is known before it; a block that is not listed leaves none
 unfoldable pub slimPart : Setup → Part → List Slim
@@ -35,36 +33,18 @@ slimsIn file = slims noSetup (partsOf (walked (wordsOf file)))
 abbrev pub noSlim : Slim
 noSlim = record { head = []; records = []; contents = [] }
 
--- the slim block at a place, where there is one, and else `found`
-unfoldable pub slimFrom : ℕ → Slim → List Slim → Slim
-slimFrom place found [] = found
-slimFrom place found (x ∷ xs) = slimFrom place (cond (eqb (placeOf (keyOf (wordIn x 0))) place) x found) xs
+-- the slim blocks from the one at a place on, where there is one, and else `found`: an accepted file has one at most
+unfoldable pub slimsFrom : ℕ → List Slim → List Slim → List Slim
+slimsFrom place found [] = found
+slimsFrom place found (x ∷ xs) = slimsFrom place (cond (eqb (placeOf (idIn x)) place) (x ∷ xs) found) xs
 
--- the slim block at a place: an accepted file has one at most
+-- listed block k of those from the one with this id on, counted from 0
+unfoldable pub slimAfter : (id k : ℕ) → List Slim → Slim
+slimAfter id k xs = getD (slimsFrom (placeOf id) [] xs) k noSlim
+
+-- the slim block with this id; "spectrum (0E or 10)" has one place
 unfoldable pub slimAt : ℕ → List Slim → Slim
-slimAt place xs = slimFrom place noSlim xs
-
--- the places: those of the outline, and those of the three 0B, which have masks 01, 02 and 04
-unfoldable pub places : List ℕ
-places =
-    0x01 ∷ (0x02 ∷ (0x03 ∷ (0x04 ∷ (0x05 ∷ (0x07 ∷ (0x0E ∷ (0x09 ∷ (0x010B ∷ (0x020B ∷ (0x040B ∷ (0x0F ∷ [])))))))))))
-
--- where the block at a place starts
-unfoldable pub startOf : ℕ → Starts → ℕ
-startOf place s =
-    cond (eqb place 0x01) (s .file)
-    (cond (eqb place 0x02) (s .unit)
-    (cond (eqb place 0x03) (s .title)
-    (cond (eqb place 0x04) (s .setup)
-    (cond (eqb place 0x05) (s .profiles)
-    (cond (eqb place 0x07) (s .results)
-    (cond (eqb place 0x0E) (s .spectrum)
-    (cond (eqb place 0x09) (s .statistics)
-    (cond (eqb place 0x010B) (s .counts1)
-    (cond (eqb place 0x020B) (s .counts2)
-    (cond (eqb place 0x040B) (s .counts3)
-    (cond (eqb place 0x0F) (s .logger)
-    absent)))))))))))
+slimAt id xs = slimAfter id 0 xs
 
 -- ---- what is known at the end of a file: what its slim blocks say, one after another
 

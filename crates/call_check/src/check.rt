@@ -2,22 +2,14 @@
 use crate::judge::Judged;
 use crate::judge::State;
 use crate::judge::survey;
+use crate::starts::Starts;
 ghost use mathlib.Core.Path.{_≡_};
-ghost use Rattle.call_check.specs.Check.{outlineOf, Checked};
+ghost use Rattle.call_check.specs.Check.{Checked};
 
-// What document 01 calls the record: the function, and the start words of 01, 02, 03, 04, 05, 07, 0E or 10, 09 and 0F; 65,535
-// for an absent block.
+// What document 01 calls the record: the function, and the starts of the listed blocks.
 pub struct Outline {
     pub function: u16,
-    pub file: u16,
-    pub unit: u16,
-    pub title: u16,
-    pub setup: u16,
-    pub profiles: u16,
-    pub results: u16,
-    pub spectrum: u16,
-    pub statistics: u16,
-    pub logger: u16,
+    pub starts: Starts,
 }
 
 pub enum Answer {
@@ -25,32 +17,16 @@ pub enum Answer {
     Refused { num: u8, at: usize },
 }
 
-impl Outline {
-    fn of(state: State) -> Outline
-        ensures { λ r. ⌜ r ≡ outlineOf state ⌝ }
-    {
-        let starts = state.starts;
-        Outline {
-            function: state.setup.function,
-            file: starts.file,
-            unit: starts.unit,
-            title: starts.title,
-            setup: starts.setup,
-            profiles: starts.profiles,
-            results: starts.results,
-            spectrum: starts.spectrum,
-            statistics: starts.statistics,
-            logger: starts.logger,
-        }
-    }
-}
-
 // Whether a file is accepted, with its outline, or its first fault.
 pub fn check(file: &[u8]) -> Answer
     ensures { λ r. ⌜ Checked (now (file .entry)) r ⌝ }
 {
     match survey(file) {
-        Judged::Passed(state) => Answer::Accepted(Outline::of(state)),
+        Judged::Passed(state) => {
+            let function = state.setup.function;
+            let starts = state.starts;
+            Answer::Accepted(Outline { function, starts })
+        }
         Judged::Denied { num, at } => Answer::Refused { num, at },
     }
 }

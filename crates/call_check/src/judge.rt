@@ -1,4 +1,5 @@
 // The walk over a file, judged block by block.
+use crate::starts::Starts;
 use file_order::order::Due;
 use file_order::order::key_of;
 use file_order::setup::Setup;
@@ -15,23 +16,7 @@ ghost use Prim.Native.Nat.{_<_, _≤_};
 ghost use lib.ListN.{length};
 ghost use Rattle.words.specs.Words.{wordsOf};
 ghost use Rattle.file_walk.specs.Walk.{walked};
-ghost use Rattle.call_check.specs.Judge.{noStarts, placeOf, noted, firstState, skipped, enteredBy, seenIn, closed, judgedStep, judge, surveyed, Ends, Near};
-
-// The start word of each listed block; 65,535 where it is absent.
-pub struct Starts {
-    pub file: u16,
-    pub unit: u16,
-    pub title: u16,
-    pub setup: u16,
-    pub profiles: u16,
-    pub results: u16,
-    pub spectrum: u16,
-    pub statistics: u16,
-    pub counts1: u16,
-    pub counts2: u16,
-    pub counts3: u16,
-    pub logger: u16,
-}
+ghost use Rattle.call_check.specs.Judge.{firstState, skipped, enteredBy, seenIn, closed, judgedStep, judge, surveyed, Ends, Near};
 
 // What is known between two blocks.
 pub struct State {
@@ -44,58 +29,6 @@ pub struct State {
 pub enum Judged {
     Passed(State),
     Denied { num: u8, at: usize },
-}
-
-const ABSENT: u16 = 65535;
-
-// The place at which a block's start is noted: 1/1 and 1/3 octave spectra have one.
-fn place_of(key: u16) -> u16
-    ensures { λ r. ⌜ r ≡ placeOf key ⌝ }
-{
-    if key == 0x10 { 0x0E } else { key }
-}
-
-impl Starts {
-    fn none() -> Starts
-        ensures { λ r. ⌜ r ≡ noStarts ⌝ }
-    {
-        Starts {
-            file: ABSENT,
-            unit: ABSENT,
-            title: ABSENT,
-            setup: ABSENT,
-            profiles: ABSENT,
-            results: ABSENT,
-            spectrum: ABSENT,
-            statistics: ABSENT,
-            counts1: ABSENT,
-            counts2: ABSENT,
-            counts3: ABSENT,
-            logger: ABSENT,
-        }
-    }
-
-    fn noted(self, place: u16, at: u16) -> Starts
-        ensures { λ r. ⌜ r ≡ noted self place at ⌝ }
-    {
-        let mut s = self;
-        match place {
-            0x01 => s.file = at,
-            0x02 => s.unit = at,
-            0x03 => s.title = at,
-            0x04 => s.setup = at,
-            0x05 => s.profiles = at,
-            0x07 => s.results = at,
-            0x0E => s.spectrum = at,
-            0x09 => s.statistics = at,
-            0x010B => s.counts1 = at,
-            0x020B => s.counts2 = at,
-            0x040B => s.counts3 = at,
-            0x0F => s.logger = at,
-            _ => {}
-        }
-        s
-    }
 }
 
 impl State {
@@ -133,7 +66,7 @@ impl State {
         State {
             due: Due::after(setup, key),
             setup,
-            starts: self.starts.noted(place_of(key), at as u16),
+            starts: self.starts.noted(key % 256, at as u16),
         }
     }
 

@@ -43,7 +43,7 @@ turn {file} {c} {known} below a o id nn start len next q =
     let s = step-block (wordsOf file) c id nn start len next q in
     let words = ap slimWords (b .split) ∙ words-split known (partAt (wordsOf file) start len) (b .more) in
     record {
-      within = subst (λ (k : Setup). Within (wordsOf file) k start len) (b .before-is) (inside (words-below file below) (accepted-few file (a .state) (a .passed)) (b .passes));
+      within = subst (λ (k : Setup). Within (wordsOf file) k start len) (o .known-is) (inside (words-below file below) (accepted-few file (a .state) (a .passed)) (b .passes));
       more = b .more;
       words = words;
       sum = ap length words ∙ length-append (partWords known (partAt (wordsOf file) start len)) (slimWords (b .more));

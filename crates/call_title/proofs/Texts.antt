@@ -17,9 +17,10 @@ use Rattle.file_tables.specs.Table.{kindOf}
 use Rattle.file_order.specs.Setup.{rowFor, slimOf}
 use Rattle.file_order.proofs.KnownLaws.{row-exact, row-text}
 use Rattle.file_read.specs.Read.{blockAt}
-use Rattle.call_check.proofs.Found.{Found, there, nowhere}
+use Rattle.call_check.specs.Starts.{placeOf}
+use Rattle.call_check.proofs.StartLaws.{own, own-id}
+use Rattle.call_check.proofs.Found.{first, slim-there, Found, there, nowhere}
 use Rattle.file_read.proofs.Places.{block-at}
-use Rattle.call_check.proofs.FoundWords.{place-id}
 
 -- ---- texts
 
@@ -56,19 +57,19 @@ block-text (w ∷ b) vs e = text-within b vs e
 -- ---- the text of a block that was found
 
 -- the files that may be accepted have 32,768 words at most
-module _ {ws : List ℕ} (few : length ws ≤ 32768) {last : Setup} {start : ℕ} {x : Slim} where
+module _ {ws : List ℕ} (few : length ws ≤ 32768) {last : Setup} {start : ℕ} {xs : List Slim} where
   -- a text, read from word 1 of its block on in the file, and in the block's slim form
-  pub found-text : (id : ℕ) → id < 256 → (id ≡ 0x0B → ⊥) → (id ≡ 0x0E → ⊥) → kindOf id .exact ≡ false → kindOf id .text ≡ true → Found ws last id start x
-      → beforeNull (bytesOf (drop (start + 1) ws)) ≡ beforeNull (bytesOf (drop 1 (x .head)))
+  pub found-text : (id : ℕ) → own id ≡ true → kindOf id .exact ≡ false → kindOf id .text ≡ true → Found ws last (placeOf id) start xs
+      → beforeNull (bytesOf (drop (start + 1) ws)) ≡ beforeNull (bytesOf (drop 1 (first xs .head)))
   unfolding readable slimOf slimBy headBy cutText
-  found-text id small b e ex tx (there t) =
+  found-text id o ex tx (there t) =
       let block = blockAt ws start in
       let w = getD block 0 0 in
-      let same : low w ≡ id = place-id w id small b e (t .place-is) in
+      let same : low w ≡ id = own-id id o (low w) (t .place-is) in
       let text = row-text (t .setup) w ∙ ap (λ (i : ℕ). kindOf i .text) same ∙ tx in
       let exact = row-exact (t .setup) w ∙ ap (λ (i : ℕ). kindOf i .exact) same ∙ ex in
       let null : nulled (drop 1 block) ≡ true = rw text at (kept-says _ block (t .good) .null) in
-      let head : x .head ≡ headBy (rowFor (t .setup) w) block = ap (λ (y : Slim). y .head) (t .slim) in
+      let head : first xs .head ≡ headBy (rowFor (t .setup) w) block = ap (λ (y : Slim). y .head) (slim-there t) in
       let front : block ++ drop (length block) (drop start ws) ≡ drop start ws =
       ap (λ (l : List ℕ). l ++ drop (length block) (drop start ws)) (block-at ws start (length block) (t .front)) ∙ take-append-drop (length block) (drop start ws)
       in
@@ -76,4 +77,4 @@ module _ {ws : List ℕ} (few : length ws ≤ 32768) {last : Setup} {start : ℕ
       ∙ block-text block _ null
       ∙ sym (text-kept (drop 1 block))
       ∙ sym (ap (λ (l : List ℕ). beforeNull (bytesOf (drop 1 l))) head ∙ rw (exact, text))
-  found-text id small b e ex tx (nowhere a n) = rw (n, drop-of-length-le ws {i = start + 1} (omega arith))
+  found-text id o ex tx (nowhere a n) = rw (n, drop-of-length-le ws {i = start + 1} (omega arith))

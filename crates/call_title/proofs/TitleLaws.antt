@@ -4,7 +4,7 @@ use mathlib.Core.List.{List}
 use mathlib.Core.Path.{_≡_, refl, sym, ap, _∙_}
 use Prim.Native.Nat.{ℕ, _+_, _*_, _≤_}
 use native.Mathlib.Omega.{arith}
-use lib.Dec.{eqb}
+use lib.Dec.{eqb, lit≤}
 use lib.ListN.{length, take, drop, length-take, length-drop}
 use denote.Ref.{RefT}
 use borrow.Author.Tests.{eqb-false, eq-eqb, ne-eqb}
@@ -17,8 +17,10 @@ use Rattle.call_check.specs.declared.judge.State.{State}
 use Rattle.call_check.specs.declared.judge.Judged.{Judged}
 use Rattle.call_check.specs.declared.judge.Judged.the-variants.{Passed, Denied}
 use Rattle.call_check.specs.Judge.{surveyed}
-use Rattle.call_check.specs.Slims.{slimsIn, places, startOf}
-use Rattle.call_check.proofs.Found.{isIn, found}
+use Rattle.call_check.specs.Starts.{placeOf, startOf}
+use Rattle.call_check.specs.Slims.{slimsIn, slimAfter, slimAt}
+use Rattle.call_check.proofs.StartLaws.{own}
+use Rattle.call_check.proofs.Found.{found}
 use Rattle.call_check.proofs.FoundWords.{accepted-fits, accepted-few}
 use Rattle.text.proofs.Nulls.{text-front}
 use Rattle.call_title.proofs.Texts.{found-text}
@@ -46,8 +48,8 @@ module _ (file : List ℕ) (s : State) (e : surveyed file ≡ Passed s) where
   title-passed = rw e
 
   pub title-found : beforeNull (bytesOf (drop (s .starts .title + 1) (wordsOf file))) ≡ titleText (slimsIn file)
-  unfolding titleText startOf isIn places rowOf
-  title-found = found-text (accepted-few file s e) 0x03 (omega arith) (λ z. omega arith) (λ z. omega arith) refl refl (found file s e 0x03 refl)
+  unfolding titleText slimAt slimAfter startOf placeOf own rowOf
+  title-found = found-text (accepted-few file s e) 0x03 refl refl refl (found file s e 0x03 (lit≤ tt))
 
   -- as the code reads it: the part of the file from word 1 of the block on, and of that what stands before its null
   pub title-read : (part text : List ℕ) → part ≡ bytesOf (drop (s .starts .title + 1) (wordsOf file)) → text ≡ beforeNull part → titleAt file ≡ textAt (s .starts .title) text

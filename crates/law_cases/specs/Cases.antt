@@ -9,7 +9,7 @@ use Rattle.text.specs.Ascii.{ascii}
 use Rattle.units.specs.Level.{level, tenths}
 use Rattle.file_walk.specs.Walk.{endMarker}
 use Rattle.file_rules.specs.Slim.{Slim}
-use Rattle.call_check.specs.Judge.{absent}
+use Rattle.call_check.specs.Starts.{absent}
 use Rattle.call_check.specs.Check.{verdict, values}
 use Rattle.call_title.specs.declared.TitleAt.{TitleAt}
 use Rattle.call_title.specs.declared.TitleAt.the-variants.{Text, Label}

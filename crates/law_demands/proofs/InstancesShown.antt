@@ -17,7 +17,8 @@ use Rattle.file_tables.specs.Table.{rowOf}
 use Rattle.file_order.specs.Setup.{slimOf, bandsOf, levelsOf, idIn, learnt, classesOf, rowFor}
 use Rattle.file_order.specs.Order.{keyOf, isDue, passedOver, dueAfter, dueAfterProfiles, dueAfterResults}
 use Rattle.law_additions.specs.Additions.{mayGrow, isText, recounted, rest, Grown, title, Additions, partsIn}
-use Rattle.call_check.specs.Judge.{placeOf, noted, skipped, entered, enteredBy, testedBy, judgedBy, seenBy, seenIn, closed, judge, misfit, surveyed}
+use Rattle.call_check.specs.Starts.{placeOf, noted}
+use Rattle.call_check.specs.Judge.{skipped, entered, enteredBy, testedBy, judgedBy, seenBy, seenIn, closed, judge, misfit, surveyed}
 use Rattle.law_grammar.proofs.Takes.{accepts}
 use Rattle.law_grammar.proofs.Exactly.{accepts-found}
 use Rattle.words.specs.Numbers.{numbersFrom}

@@ -5,7 +5,7 @@ use Prim.Native.Nat.{ℕ}
 use lib.ListN.{take, replicate}
 use Rattle.file_walk.specs.Walk.{Part, endMarker}
 use Rattle.call_check.specs.Check.{verdict, values}
-use Rattle.call_check.specs.Judge.{absent}
+use Rattle.call_check.specs.Starts.{absent}
 use Rattle.law_grammar.specs.Grammar.{Accepts}
 use Rattle.sheet_page.specs.Sheet.{sheetTexts}
 use Rattle.call_sheet.specs.Reply.{sheetReply, outputBy}

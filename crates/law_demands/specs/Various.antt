@@ -7,7 +7,7 @@ use denote.Ref.{RefT}
 use Rattle.text.specs.Ascii.{ascii}
 use Rattle.file_walk.specs.Walk.{Part}
 use Rattle.call_check.specs.Check.{verdict, values}
-use Rattle.call_check.specs.Judge.{absent}
+use Rattle.call_check.specs.Starts.{absent}
 use Rattle.call_title.specs.Title.{Seen, titleOf}
 use Rattle.call_slim.specs.Copy.{slimCopy}
 use Rattle.sheet_page.specs.Sheet.{sheetTexts}

@@ -27,7 +27,7 @@ use Rattle.call_check.specs.declared.judge.Judged.the-variants.{Passed}
 use Rattle.call_check.specs.Judge.{firstState, skipped, enteredBy, closed, judge, misfit, surveyed}
 use Rattle.call_check.specs.Slims.{slimPart, knownFrom, slims, slimsIn}
 use Rattle.file_read.specs.Read.{partAt}
-use Rattle.call_check.proofs.Seen.{no-denied, Through, unlisted, listed, closed-passed}
+use Rattle.call_check.proofs.Seen.{no-denied, Through, unlisted, listed, closed-passed, closed-due}
 use Rattle.call_check.proofs.Onward.{no-fuel, passes, known-through, slims-over, slims-block}
 use Rattle.call_check.proofs.FoundWords.{accepted-few}
 
@@ -36,12 +36,6 @@ pub record Comes (s : State) (b : List ℕ) : Type 0 where
   pub due : isDue (s .due) (keyOf (getD b 0 0)) ≡ true
   pub good : kept (rowFor (s .setup) (getD b 0 0)) b ≡ Good
   pub few : length b ≤ 32768
-
--- at the end of an accepted file the end marker is due
-closed-due : (s s′ : State) (stop : Stop) → closed s stop ≡ Passed s′ → isDue (s .due) endMarker ≡ true
-unfolding closed
-closed-due s s′ (End at left) e = cond-first (isDue (s .due) endMarker) e no-denied .0
-closed-due s s′ (Refused num at) e = absurd (no-denied e)
 
 part-none : (k : Setup) (p : Part) → kindOf (low (getD (p .words) 0 0)) .listed ≡ false → slimPart k p ≡ []
 unfolding slimPart

@@ -1,7 +1,7 @@
 -- What an accepted file says, read where its blocks start.
 pub mod Always
 pub mod SetupLaws
-pub mod ClassLaws
+pub mod HistogramLaws
 pub mod ReadLaws
 pub mod TitleBrief
 pub mod SpectrumLaws

@@ -24,11 +24,12 @@ use Rattle.file_order.proofs.KnownLaws.{row-exact, row-text, row-at}
 use Rattle.call_check.specs.declared.judge.State.{State}
 use Rattle.call_check.specs.declared.judge.Judged.the-variants.{Passed}
 use Rattle.call_check.specs.Judge.{surveyed}
-use Rattle.call_check.specs.Slims.{slimsIn, places}
-use Rattle.file_read.specs.Read.{blockAt}
-use Rattle.call_check.proofs.Found.{There, Found, there, nowhere, isIn, found}
+use Rattle.call_check.specs.Starts.{placeOf}
+use Rattle.call_check.specs.Slims.{slimsIn, slimAfter, slimAt}
+use Rattle.call_check.proofs.StartLaws.{own, own-id}
+use Rattle.file_read.specs.Read.{blockAt, rawAt}
+use Rattle.call_check.proofs.Found.{first, slim-there, There, Found, there, nowhere, found}
 use Rattle.file_read.proofs.Places.{block-at}
-use Rattle.call_check.proofs.FoundWords.{place-id}
 use Rattle.call_title.specs.Title.{titleText}
 use Rattle.call_title.proofs.Texts.{text-kept}
 
@@ -52,13 +53,13 @@ short-few ws n f l small = go (front-cuts ws n f .size)
     go (inl (t, two, k)) = absurd (false≢true (sym l ∙ t))
     go (inr (t, k)) = omega arith
 
-module _ {ws : List ℕ} (small : Below 65536 ws) {last : Setup} {start : ℕ} {x : Slim} where
-  title-block : There ws last 0x03 start x → (length (blockAt ws start) ≤ 255) × (nulled (drop 1 (blockAt ws start)) ≡ true)
-  unfolding readable longForm rowOf
+module _ {ws : List ℕ} (small : Below 65536 ws) {last : Setup} {start : ℕ} {xs : List Slim} where
+  title-block : There ws last (placeOf 0x03) start (blockAt ws start) (rawAt ws start) xs → (length (blockAt ws start) ≤ 255) × (nulled (drop 1 (blockAt ws start)) ≡ true)
+  unfolding readable longForm rowOf own placeOf
   title-block t =
       let b = blockAt ws start in
       let w = getD b 0 0 in
-      let id : low w ≡ 0x03 = place-id w 0x03 (omega arith) (λ z. omega arith) (λ z. omega arith) (t .place-is) in
+      let id : low w ≡ 0x03 = own-id 0x03 refl (low w) (t .place-is) in
       let kept = kept-says _ b (t .good) in
       let exact = row-exact (t .setup) w ∙ ap (λ (i : ℕ). kindOf i .exact) id in
       let text = row-text (t .setup) w ∙ ap (λ (i : ℕ). kindOf i .text) id in
@@ -67,18 +68,18 @@ module _ {ws : List ℕ} (small : Below 65536 ws) {last : Setup} {start : ℕ} {
       let short : longForm w ≡ false = simp (ne-eqb (high w) 0 (kept-short kept exact), id) in
       (short-few (drop start ws) (length b) (t .front) (rw first at short) (below-drop start ws small 0), rw text at (kept .null))
 
-  found-brief : Found ws last 0x03 start x → length (beforeNull (bytesOf (drop 1 (x .head)))) ≤ 507
-  unfolding slimOf slimBy headBy cutText rowOf beforeNull bytesOf
+  found-brief : Found ws last (placeOf 0x03) start xs → length (beforeNull (bytesOf (drop 1 (first xs .head)))) ≤ 507
+  unfolding slimOf slimBy headBy cutText rowOf beforeNull bytesOf own placeOf
   found-brief (there t) =
       let b = blockAt ws start in
-      let id = place-id (getD b 0 0) 0x03 (omega arith) (λ z. omega arith) (λ z. omega arith) (t .place-is) in
+      let id = own-id 0x03 refl (low (getD b 0 0)) (t .place-is) in
       let row = row-at (λ r. headBy r b ≡ cutText b) 0x03 refl refl refl (t .setup) (getD b 0 0) id in
-      let head : x .head ≡ cutText b = ap (λ (y : Slim). y .head) (t .slim) ∙ row in
+      let head : first xs .head ≡ cutText b = ap (λ (y : Slim). y .head) (slim-there t) ∙ row in
       let text = ap (λ (l : List ℕ). length (beforeNull (bytesOf (drop 1 l)))) head ∙ ap length (text-kept (drop 1 b)) in
       let block = title-block t in
       omega (arith, text, text-less (drop 1 b) (block .1), length-drop 1 b)
   found-brief (nowhere a n) = rw n (lit≤ tt)
 
 pub title-brief : (file : List ℕ) (s : State) → surveyed file ≡ Passed s → Below 256 file → length (titleText (slimsIn file)) ≤ 507
-unfolding titleText isIn places
-title-brief file s e small = found-brief (words-below file small) (found file s e 0x03 refl)
+unfolding titleText slimAt slimAfter placeOf
+title-brief file s e small = found-brief (words-below file small) (found file s e 0x03 (lit≤ tt))

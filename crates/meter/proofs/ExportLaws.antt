@@ -1,6 +1,6 @@
 -- An answer of each of the four calls, as the struct that a caller from outside gets.
 use mathlib.Core.Bool.{true, false}
-use mathlib.Core.List.{List, [], _∷_}
+use mathlib.Core.List.{List}
 use mathlib.Core.Path.{_≡_, sym, ap, _∙_}
 use Prim.Native.Nat.{ℕ}
 use lib.ListN.{replicate}
@@ -8,7 +8,7 @@ use Rattle.paging.specs.declared.fit.Progress.{Progress}
 use Rattle.call_check.specs.declared.check.Outline.{Outline}
 use Rattle.call_check.specs.declared.check.Answer.{Answer}
 use Rattle.call_check.specs.declared.check.Answer.the-variants.{Accepted, Refused}
-use Rattle.call_check.specs.Judge.{absent}
+use Rattle.call_check.specs.Starts.{absent, startsIn}
 use Rattle.call_check.specs.Check.{verdict, Checked}
 use Rattle.call_check.proofs.Answers.{checked-verdict}
 use Rattle.call_title.specs.declared.TitleAt.{TitleAt}
@@ -24,15 +24,10 @@ use Rattle.meter.proofs.FieldLaws.{answer-of-sheet, answer-of-slim}
 
 module _ (file : List ℕ) {a : Answer} (h : Checked file a) where
   -- the outline of an accepted file
-  pub check-accepted : {r : Outline} → a ≡ Accepted r
-      → record {
-        refusal = 0;
-        function = r .function;
-        starts = r .file ∷ (r .unit ∷ (r .title ∷ (r .setup ∷ (r .profiles ∷ (r .results ∷ (r .spectrum ∷ (r .statistics ∷ (r .logger ∷ []))))))));
-        at = 0;
-      } ≡ checkReply (verdict file)
+  pub check-accepted : {r : Outline} {starts : List ℕ} → a ≡ Accepted r → starts ≡ startsIn (r .starts)
+      → record { refusal = 0; function = r .function; starts = starts; at = 0 } ≡ checkReply (verdict file)
   unfolding checkReply
-  check-accepted e = ap checkReply (sym e ∙ checked-verdict file a h)
+  check-accepted e l = rw l (ap checkReply (sym e ∙ checked-verdict file a h))
 
   -- a refusal has no function and no starts
   pub check-refused : {num at : ℕ} → a ≡ Refused num at → record { refusal = num; function = 0; starts = replicate 9 absent; at = at } ≡ checkReply (verdict file)

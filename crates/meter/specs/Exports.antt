@@ -1,11 +1,11 @@
 -- How an answer of the four calls stands in the struct that a caller from outside gets: `refusal` is document 01's number, and 0 for
 -- success; what an answer does not have is 0 or false, and a start 65,535.
 use mathlib.Core.Bool.{true, false}
-use mathlib.Core.List.{List, [], _∷_}
+use mathlib.Core.List.{List}
 use mathlib.Core.Path.{_≡_}
 use Prim.Native.Nat.{ℕ}
 use lib.ListN.{length, drop, replicate}
-use Rattle.call_check.specs.Judge.{absent}
+use Rattle.call_check.specs.Starts.{absent, startsIn}
 use Rattle.call_check.specs.declared.check.Answer.{Answer}
 use Rattle.call_check.specs.declared.check.Answer.the-variants.{Accepted, Refused}
 use Rattle.call_title.specs.declared.TitleAt.{TitleAt}
@@ -25,7 +25,7 @@ checkReply (Accepted r) =
     record {
       refusal = 0;
       function = r .function;
-      starts = r .file ∷ (r .unit ∷ (r .title ∷ (r .setup ∷ (r .profiles ∷ (r .results ∷ (r .spectrum ∷ (r .statistics ∷ (r .logger ∷ []))))))));
+      starts = startsIn (r .starts);
       at = 0;
     }
 checkReply (Refused num at) = record { refusal = num; function = 0; starts = replicate 9 absent; at = at }

@@ -1,6 +1,7 @@
 // The four calls for callers from outside: an answer as a struct that C and Rust share (include/meter.h).
 use call_check::check::Answer;
 use call_check::check::check;
+use call_check::starts::Starts;
 use call_sheet::Reply as Sheeted;
 use call_sheet::sheet;
 use call_slim::Reply as Slimmed;
@@ -10,6 +11,7 @@ use call_title::title_at;
 ghost use mathlib.Core.Path.{_≡_};
 ghost use lib.ListN.{length};
 ghost use Rattle.call_check.specs.Check.{verdict};
+ghost use Rattle.call_check.specs.Starts.{startsIn};
 ghost use Rattle.call_title.specs.Title.{titleAt};
 ghost use Rattle.meter.specs.Exports.{checkReply, titleReply, SheetGiven, SlimGiven};
 
@@ -47,27 +49,33 @@ pub struct SlimReply {
     pub bytes: usize,
 }
 
+// The starts of the record, in its order.
+fn listed(starts: Starts) -> [u16; 9]
+    ensures { λ r. ⌜ r ≡ startsIn starts ⌝ }
+{
+    let mut list = [0u16; 9];
+    let mut place = 0;
+    while place < 9 {
+        list[place] = starts.start(place);
+        place += 1;
+    }
+    list
+}
+
 #[no_mangle]
 pub extern "C" fn meter_check(file: &[u8]) -> CheckReply
     ensures { λ r. ⌜ r ≡ checkReply (verdict (now (file .entry))) ⌝ }
 {
     match check(file) {
-        Answer::Accepted(r) => CheckReply {
-            refusal: 0,
-            function: r.function as u8,
-            starts: [
-                r.file,
-                r.unit,
-                r.title,
-                r.setup,
-                r.profiles,
-                r.results,
-                r.spectrum,
-                r.statistics,
-                r.logger,
-            ],
-            at: 0,
-        },
+        Answer::Accepted(r) => {
+            let starts = r.starts;
+            CheckReply {
+                refusal: 0,
+                function: r.function as u8,
+                starts: listed(starts),
+                at: 0,
+            }
+        }
         Answer::Refused { num, at } => CheckReply {
             refusal: num,
             function: 0,

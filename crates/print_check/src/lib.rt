@@ -2,18 +2,20 @@
 use call_check::check::Answer;
 use call_check::check::Outline;
 use call_check::check::check;
+use call_check::starts::Starts;
 use text::decimal::put_decimal;
 use text::decimal::put_short;
 use text::put::put_byte;
 use text::put::put_bytes;
-ghost use mathlib.Core.List.{_++_};
+ghost use mathlib.Core.List.{[], _++_};
 ghost use Prim.Native.Nat.{_+_, _≤_};
-ghost use lib.ListN.{length};
+ghost use lib.ListN.{length, getD};
 ghost use Rattle.text.specs.Ascii.{ascii};
 ghost use Rattle.text.specs.Decimal.{decimal};
 ghost use Rattle.text.specs.Text.{Wrote};
 ghost use Rattle.call_check.specs.Check.{verdict};
-ghost use Rattle.print_check.specs.Replies.{refusal, entry, headEntries, setupEntries, resultEntries, startEntries, acceptance, reply};
+ghost use Rattle.call_check.specs.Starts.{startsIn};
+ghost use Rattle.print_check.specs.Replies.{refusal, entry, keys, entries, acceptance, reply};
 
 // Where the fault is, and the line's end.
 fn put_place(out: &mut [u8], at: usize) -> usize
@@ -34,59 +36,57 @@ pub fn put_refusal(out: &mut [u8], num: u8, at: usize) -> usize
     b + put_place(&mut out[b..], at)
 }
 
-// A key and its number.
-fn put_entry(out: &mut [u8], key: &[u8], n: u16) -> usize
-    requires { ⌜ length (now key) + 9 ≤ length (now out) ⌝ }
-    ensures { λ r. ⌜ Wrote (entry (now (key .entry)) n) (length (now (key .entry)) + 9) (now (out .entry)) (now (out .exit)) r ⌝ }
+// The key of a place of the record.
+fn put_key(out: &mut [u8], place: usize) -> usize
+    requires { ⌜ length (getD keys place []) ≤ length (now out) ⌝ }
+    ensures { λ r. ⌜ Wrote (getD keys place []) (length (getD keys place [])) (now (out .entry)) (now (out .exit)) r ⌝ }
 {
-    let a = put_bytes(out, key);
-    a + put_short(&mut out[a..], n as u64)
+    match place {
+        0 => put_bytes(out, b" 01="),
+        1 => put_bytes(out, b" 02="),
+        2 => put_bytes(out, b" 03="),
+        3 => put_bytes(out, b" 04="),
+        4 => put_bytes(out, b" 05="),
+        5 => put_bytes(out, b" 07="),
+        6 => put_bytes(out, b" spectrum="),
+        7 => put_bytes(out, b" 09="),
+        8 => put_bytes(out, b" 0F="),
+        _ => 0,
+    }
 }
 
-fn put_head_entries(out: &mut [u8], r: Outline) -> usize
-    requires { ⌜ 39 ≤ length (now out) ⌝ }
-    ensures { λ n. ⌜ Wrote (headEntries r) 39 (now (out .entry)) (now (out .exit)) n ⌝ }
+// The key of a place and the start that stands there.
+fn put_entry(out: &mut [u8], place: usize, start: u16) -> usize
+    requires { ⌜ length (getD keys place []) + 9 ≤ length (now out) ⌝ }
+    ensures { λ r. ⌜ Wrote (entry (getD keys place []) start) (length (getD keys place []) + 9) (now (out .entry)) (now (out .exit)) r ⌝ }
 {
-    let a = put_entry(out, b" 01=", r.file);
-    let b = a + put_entry(&mut out[a..], b" 02=", r.unit);
-    b + put_entry(&mut out[b..], b" 03=", r.title)
-}
-
-fn put_setup_entries(out: &mut [u8], r: Outline) -> usize
-    requires { ⌜ 26 ≤ length (now out) ⌝ }
-    ensures { λ n. ⌜ Wrote (setupEntries r) 26 (now (out .entry)) (now (out .exit)) n ⌝ }
-{
-    let a = put_entry(out, b" 04=", r.setup);
-    a + put_entry(&mut out[a..], b" 05=", r.profiles)
-}
-
-fn put_result_entries(out: &mut [u8], r: Outline) -> usize
-    requires { ⌜ 58 ≤ length (now out) ⌝ }
-    ensures { λ n. ⌜ Wrote (resultEntries r) 58 (now (out .entry)) (now (out .exit)) n ⌝ }
-{
-    let a = put_entry(out, b" 07=", r.results);
-    let b = a + put_entry(&mut out[a..], b" spectrum=", r.spectrum);
-    let c = b + put_entry(&mut out[b..], b" 09=", r.statistics);
-    c + put_entry(&mut out[c..], b" 0F=", r.logger)
+    let a = put_key(out, place);
+    a + put_short(&mut out[a..], start as u64)
 }
 
 // The start word of each block.
-fn put_start_entries(out: &mut [u8], r: Outline) -> usize
+fn put_starts(out: &mut [u8], starts: Starts) -> usize
     requires { ⌜ 123 ≤ length (now out) ⌝ }
-    ensures { λ n. ⌜ Wrote (startEntries r) 123 (now (out .entry)) (now (out .exit)) n ⌝ }
+    ensures { λ r. ⌜ Wrote (entries keys (startsIn starts)) 123 (now (out .entry)) (now (out .exit)) r ⌝ }
 {
-    let a = put_head_entries(out, r);
-    let b = a + put_setup_entries(&mut out[a..], r);
-    b + put_result_entries(&mut out[b..], r)
+    let mut at = 0;
+    let mut place = 0;
+    while place < 9 {
+        let n = put_entry(&mut out[at..], place, starts.start(place));
+        at += n;
+        place += 1;
+    }
+    at
 }
 
 fn put_acceptance(out: &mut [u8], r: Outline) -> usize
     requires { ⌜ 151 ≤ length (now out) ⌝ }
     ensures { λ n. ⌜ Wrote (acceptance r) 151 (now (out .entry)) (now (out .exit)) n ⌝ }
 {
-    let a = put_bytes(out, b"accepted");
-    let b = a + put_entry(&mut out[a..], b" function=", r.function);
-    let c = b + put_start_entries(&mut out[b..], r);
+    let a = put_bytes(out, b"accepted function=");
+    let b = a + put_short(&mut out[a..], r.function as u64);
+    let starts = r.starts;
+    let c = b + put_starts(&mut out[b..], starts);
     c + put_byte(&mut out[c..], b'\n')
 }
 

@@ -1,6 +1,6 @@
 -- The sheet of an accepted file has few lines.
 use mathlib.Core.Bool.{Bool, true, false, cond}
-use mathlib.Core.List.{List, [], _∷_}
+use mathlib.Core.List.{List, [], _∷_, flatMap}
 use mathlib.Core.Path.{_≡_}
 use Prim.Native.Nat.{ℕ, _≤_, _<_, zero-le}
 use native.Mathlib.Omega.{arith}
@@ -12,13 +12,14 @@ use Rattle.call_check.specs.declared.judge.State.{State}
 use Rattle.call_check.specs.declared.judge.Judged.the-variants.{Passed}
 use Rattle.call_check.specs.Judge.{surveyed}
 use Rattle.call_check.specs.Slims.{slimsIn, slimAt}
-use Rattle.law_read.proofs.ClassLaws.{classes-few}
+use Rattle.law_read.proofs.HistogramLaws.{classes-few}
 use Rattle.law_read.proofs.ReadLaws.{contents-few}
 use Rattle.sheet_lines.specs.Line.{SheetLine}
 use Rattle.sheet_lines.specs.Lines.{timeRow, spanRow}
 use Rattle.sheet_results.proofs.EntryLaws.{shown-few}
+use Rattle.words.specs.Numbers.{numbersFrom}
 use Rattle.words.proofs.NumberLaws.{numbers-length}
-use Rattle.sheet_page.specs.Rows.{timeRows, bandRows, totalRows, levelRows, classRows, recordRows, texts}
+use Rattle.sheet_page.specs.Rows.{timeRows, bandRows, totalRows, levelRows, histogramRows, recordRows, texts}
 use Rattle.sheet_page.specs.Sheet.{whereThere, modelIn, functionIn, headLines, timeIn, resultLines, spectrumLines, histogramIn, statisticsLines, widthIn, bufferLines, sheetLines, sheetTexts}
 use Rattle.sheet_page.proofs.RowLaws.{records-few}
 use Rattle.sheet_page.proofs.Counts.{nominal-few, bands-few, totals-few}
@@ -53,15 +54,15 @@ module _ (file : List ℕ) (s : State) (e : surveyed file ≡ Passed s) where
       section-few _ _
       (simp (length-append, length-map, numbers-length) (omega (arith, bands-few file s e, totals-few file s e, nominal-few (slimAt 0x0E (slimsIn file)))))
 
-  histogram-few : (p place : ℕ) → p < 3 → length (histogramIn (slimsIn file) p place) ≤ 32767
-  unfolding histogramIn classRows
-  histogram-few p place h = simp (length-map, numbers-length) (omega (arith, classes-few file s e p h))
+  histogram-few : (p : ℕ) → p < 3 → length (histogramIn (slimsIn file) p) ≤ 32767
+  unfolding histogramIn histogramRows
+  histogram-few p h = simp (length-map, numbers-length) (omega (arith, classes-few file s e p h))
 
   statistics-few : length (statisticsLines (slimsIn file)) ≤ 98302
-  unfolding statisticsLines
+  unfolding statisticsLines numbersFrom flatMap
   statistics-few =
       section-few _ _
-      (simp length-append (omega (arith, histogram-few 0 0x010B (lit≤ tt), histogram-few 1 0x020B (lit≤ tt), histogram-few 2 0x040B (lit≤ tt))))
+      (simp length-append (omega (arith, histogram-few 0 (lit≤ tt), histogram-few 1 (lit≤ tt), histogram-few 2 (lit≤ tt))))
 
   buffer-few : length (bufferLines (slimsIn file)) ≤ 32769
   unfolding bufferLines recordRows

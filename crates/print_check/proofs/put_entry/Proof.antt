@@ -9,7 +9,7 @@ unfolding entry
 returns c =
     let c2 = c .before .before in
     let c1 = c2 .before .before .before .before in
-    c1 .put-bytes .ensures then c2 .put-short .ensures
+    c1 .put-key .ensures then c2 .put-short .ensures
 
 pub put-entry-spec : {M : Type 1} → statement M
 put-entry-spec = tie.close (tie.spec (λ c κs. search needs) (λ c. search needs) (λ c. search needs) (λ c. search needs) (λ c κs. search needs) (λ c. search needs) (λ c. search needs) returns)

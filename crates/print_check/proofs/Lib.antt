@@ -1,0 +1,2 @@
+-- The laws of the printed line.
+pub mod EntryLaws
