@@ -5,6 +5,7 @@ use mathlib.Core.Path.{_≡_, refl, sym, ap, _∙_}
 use Prim.Native.Nat.{ℕ}
 use lib.Dec.{eqb}
 use lib.ListN.{length, getD, drop}
+use Rattle.file_refusal.specs.Refusal.{refusal}
 use Rattle.call_check.specs.declared.check.Answer.{Answer}
 use Rattle.call_check.specs.declared.check.Answer.the-variants.{Accepted, Refused}
 use Rattle.call_check.specs.Starts.{startsOf}
@@ -13,13 +14,13 @@ use Rattle.call_check.specs.Check.{verdict, values, Checked}
 -- an answer, read back from its values
 unfoldable answerOf : List ℕ → Answer
 answerOf vs =
-    cond (eqb (length vs) 2) (Refused (getD vs 0 0) (getD vs 1 0))
+    cond (eqb (length vs) 2) (Refused (refusal (getD vs 0 0) (getD vs 1 0)))
     (Accepted (record { function = getD vs 1 0; starts = startsOf (drop 2 vs) }))
 
 read-back : (a : Answer) → answerOf (values a) ≡ a
 unfolding answerOf values
 read-back (Accepted r) = refl
-read-back (Refused num at) = refl
+read-back (Refused x) = refl
 
 pub values-one : (a b : Answer) → values a ≡ values b → a ≡ b
 values-one a b e = sym (read-back a) ∙ ap answerOf e ∙ read-back b

@@ -28,11 +28,11 @@ use Rattle.file_order.proofs.KnownLaws.{id-in, learnt-raw}
 use Rattle.file_order.specs.Order.{keyOf, dueAfter}
 use Rattle.call_check.specs.declared.judge.State.{State}
 use Rattle.call_check.specs.declared.judge.Judged.the-variants.{Passed}
-use Rattle.call_check.specs.Starts.{absent, placeOf, startOf}
+use Rattle.call_check.specs.Starts.{absent, placeCount, placeOf}
 use Rattle.call_check.specs.Judge.{firstState, skipped, entered, enteredBy, judge, misfit, surveyed}
-use Rattle.call_check.specs.Slims.{slimPart, knownFrom, slims, slimsIn, noSlim, slimsFrom}
+use Rattle.call_check.specs.Slims.{slimPart, slims, slimsIn, noSlim, slimsFrom}
 use Rattle.file_read.specs.Read.{partAt, blockAt, rawAt}
-use Rattle.call_check.proofs.StartLaws.{startAt, none-noted, start-noted}
+use Rattle.call_check.proofs.StartLaws.{startOf, startAt, none-noted, start-noted}
 use Rattle.call_check.proofs.Late.{Same, read-by}
 use Rattle.call_check.proofs.Onward.{no-fuel, Passes, passes, known-through, slims-over, slims-block, Onward}
 use Rattle.call_check.proofs.Numbered.{key-id, entered-due}
@@ -102,7 +102,7 @@ step-there ws place s last m start len next p next-is at l g e xs split =
       due = entered-due s (p .state) start b e;
     })
 
-module _ (ws : List ℕ) (place : ℕ) (small : place < 9) where
+module _ (ws : List ℕ) (place : ℕ) (small : place < placeCount) where
   -- the blocks from a cursor on, up to the end of an accepted file
   abbrev Later : ℕ → Type 0
   Later m = (c : Cursor) (s last : State) (xs : List Slim) → Found ws (last .setup) place (startAt place (s .starts)) xs → judge s (walkFrom m ws c) ≡ Passed last
@@ -119,7 +119,7 @@ module _ (ws : List ℕ) (place : ℕ) (small : place < 9) where
   slims-next : (k : Setup) (p : Part) (ys xs : List Slim) → kindOf (low (getD (p .words) 0 0)) .listed ≡ true
       → slimsFrom place xs (slimPart k p ++ ys) ≡ slimsFrom place (cond (eqb (placeOf (low (getD (p .words) 0 0))) place) (slimOf k (p .words) (p .raw) ∷ ys) xs) ys
   unfolding slimPart slimsFrom
-  slims-next k p ys xs l = rw (l, id-in k (p .words) (p .raw))
+  slims-next k p ys xs l = rw (l, id-in k (p .words) (p .raw)) refl
 
   found-block : (m : ℕ) → Later m → (c : Cursor) (s last : State) (xs : List Slim) (id nn start len : ℕ) (next : Cursor) → stepAt ws c ≡ Block id nn start len next
       → Found ws (last .setup) place (startAt place (s .starts)) xs → judge s (walkFrom (suc m) ws c) ≡ Passed last
@@ -167,7 +167,7 @@ module _ (ws : List ℕ) (place : ℕ) (small : place < 9) where
 
 -- ---- the law, for every id that has a place
 
-pub found : (file : List ℕ) (s : State) → surveyed file ≡ Passed s → (id : ℕ) → placeOf id < 9
+pub found : (file : List ℕ) (s : State) → surveyed file ≡ Passed s → (id : ℕ) → placeOf id < placeCount
     → Found (wordsOf file) (s .setup) (placeOf id) (startOf id (s .starts)) (slimsFrom (placeOf id) [] (slimsIn file))
 unfolding surveyed slimsIn startOf
 found file s e id h =

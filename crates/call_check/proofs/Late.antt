@@ -20,7 +20,7 @@ use Rattle.file_order.proofs.KnownLaws.{id-in}
 use Rattle.file_order.proofs.OrderLaws.{after-passes}
 use Rattle.call_check.specs.declared.judge.State.{State}
 use Rattle.call_check.specs.declared.judge.Judged.{Judged}
-use Rattle.call_check.specs.declared.judge.Judged.the-variants.{Passed, Denied}
+use Rattle.call_check.specs.declared.judge.Judged.the-variants.{Passed, Refused}
 use Rattle.call_check.specs.Judge.{skipped, entered, enteredBy, seenIn, judge}
 use Rattle.call_check.proofs.Turns.{judge-pass, judge-deny}
 use Rattle.call_check.proofs.Seen.{no-denied, Through, unlisted, listed, seen-through, closed-passed}
@@ -99,7 +99,7 @@ stays (block at b raw w) s s′ p e = go (seenIn s at b) refl (stays w)
         subst (Goes s) q (after-past (learnt (s .setup) (slimOf (s .setup) b [])) (keyOf (getD b 0 0)) h, same-left (s .setup) b [] h)
 
     go : (j : Judged) → seenIn s at b ≡ j → ((s s′ : State) → Past (s .due) → judge s w ≡ Passed s′ → Same (s′ .setup) (s .setup)) → Same (s′ .setup) (s .setup)
-    go (Denied num o) q ih = absurd (no-denied (sym (judge-deny s at b raw w num o q) ∙ e))
+    go (Refused x) q ih = absurd (no-denied (sym (judge-deny s at b raw w q) ∙ e))
     go (Passed s₁) q ih =
         let t = through s₁ (seen-through s at b s₁ q) in
         same-on (t .1) (ih s₁ s′ (t .0) (sym (judge-pass s at b raw w s₁ q) ∙ e))

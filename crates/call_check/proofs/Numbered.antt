@@ -1,7 +1,7 @@
 -- Numbered histograms after a header, of an accepted file: where one alone may come, the next block of its id is that one, and it is
 -- the next listed block. One law for any number of them.
 use mathlib.Core.Bool.{Bool, true, false, cond, false≢true}
-use mathlib.Core.List.{List, [], _∷_}
+use mathlib.Core.List.{List, _∷_}
 use mathlib.Core.Path.{_≡_, refl, sym, ap, subst, subst⁻¹, _∙_}
 use Prim.Native.Nat.{ℕ, suc, _+_, _≤_, _<_}
 use native.Mathlib.Omega.{arith}
@@ -21,16 +21,15 @@ use Rattle.file_rules.specs.Slim.{Slim, headBy, slimBy}
 use Rattle.file_rules.proofs.BlockLaws.{kept-says}
 use Rattle.file_tables.specs.Table.{kindOf}
 use Rattle.file_order.specs.declared.setup.Setup.{Setup}
-use Rattle.file_order.specs.declared.order.Due.{Due}
 use Rattle.file_order.specs.Setup.{rowFor, slimOf, learnt}
-use Rattle.file_order.specs.Order.{keyOf, only, isDue, passedOver, dueAfter}
+use Rattle.file_order.specs.Order.{keyOf, only, isDue, dueAfter}
 use Rattle.file_order.proofs.KnownLaws.{row-exact}
 use Rattle.file_order.proofs.OrderLaws.{only-due, only-passes}
 use Rattle.call_check.specs.declared.judge.State.{State}
 use Rattle.call_check.specs.Judge.{skipped, entered, enteredBy}
 use Rattle.call_check.specs.Slims.{slimPart, knownFrom}
 use Rattle.call_check.proofs.Seen.{Through, unlisted, listed}
-use Rattle.call_check.proofs.Onward.{Passes, Onward, Over-block, onward-block, onward-end}
+use Rattle.call_check.proofs.Onward.{Onward, Over-block, onward-block, onward-end}
 
 -- the block of a step that is the next listed one, and what follows it
 pub record Reached (ws : List ℕ) (known : Setup) (xs : List Slim) (key : ℕ) (step : Step) : Type 0 where
@@ -68,56 +67,50 @@ module _ (key : ℕ) (is-listed : kindOf (low key) .listed ≡ true) (no-header 
     come-key : (b : List ℕ) → isDue (o .state .due) (keyOf (getD b 0 0)) ≡ true → keyOf (getD b 0 0) ≡ key
     come-key b e = only-due key (keyOf (getD b 0 0)) (rw d at e)
 
-    come-here : {id nn start len : ℕ} {next : Cursor} → stepAt ws c ≡ Block id nn start len next → id ≡ low key → Reached ws known xs key (Block id nn start len next)
-    unfolding slimPart knownFrom partAt
-    come-here {id} {nn} {start} {len} {next} q i = go (v .passes .through)
-      where
-        v : Over-block o start len next
-        v = onward-block o id nn start len next q
+    module _ {id nn start len : ℕ} {next : Cursor} (q : stepAt ws c ≡ Block id nn start len next) where
+      abbrev v : Over-block o start len next
+      v = onward-block o id nn start len next q
 
-        b : List ℕ
-        b = take len (drop start ws)
+      abbrev b : List ℕ
+      b = take len (drop start ws)
 
-        go : Through (o .state) start b (v .passes .state) → Reached ws known xs key (Block id nn start len next)
-        go (unlisted l e) = absurd (false≢true (sym l ∙ ap (λ (j : ℕ). kindOf j .listed) (sym (step-block ws c id nn start len next q .id-is) ∙ i) ∙ is-listed))
-        go (listed l f g e) =
-            let k : keyOf (getD b 0 0) ≡ key = come-key b f in
-            record {
-              id = id;
-              nn = nn;
-              start = start;
-              len = len;
-              next = next;
-              step-is = refl;
-              front = v .passes .front;
-              fits = v .passes .fits;
-              key-is = k;
-              good = rw (o .known-is) at g;
-              more = v .more;
-              split = rw l at (v .split);
-              on = rw l at (v .on);
-              due = subst⁻¹ (λ (st : State). st .due ≡ dueAfter (st .setup) key) (v .state-is) (rw k at (entered-due (o .state) (v .passes .state) start b e));
-            }
+      come-here : id ≡ low key → Reached ws known xs key (Block id nn start len next)
+      unfolding slimPart knownFrom partAt
+      come-here i = go (v .passes .through)
+        where
+          go : Through (o .state) start b (v .passes .state) → Reached ws known xs key (Block id nn start len next)
+          go (unlisted l e) = absurd (false≢true (sym l ∙ ap (λ (j : ℕ). kindOf j .listed) (sym (step-block ws c id nn start len next q .id-is) ∙ i) ∙ is-listed))
+          go (listed l f g e) =
+              let k : keyOf (getD b 0 0) ≡ key = come-key b f in
+              record {
+                id = id;
+                nn = nn;
+                start = start;
+                len = len;
+                next = next;
+                step-is = refl;
+                front = v .passes .front;
+                fits = v .passes .fits;
+                key-is = k;
+                good = rw (o .known-is) at g;
+                more = v .more;
+                split = rw l at (v .split);
+                on = rw l at (v .on);
+                due = subst⁻¹ (λ (st : State). st .due ≡ dueAfter (st .setup) key) (v .state-is) (rw k at (entered-due (o .state) (v .passes .state) start b e));
+              }
 
-    -- blocks of other ids are not listed
-    come-later : {id nn start len : ℕ} {next : Cursor} → stepAt ws c ≡ Block id nn start len next → (id ≡ low key → ⊥)
-        → (p : Onward ws next known xs) × (p .state .due ≡ only key)
-    unfolding slimPart knownFrom partAt skipped
-    come-later {id} {nn} {start} {len} {next} q other = go (v .passes .through)
-      where
-        v : Over-block o start len next
-        v = onward-block o id nn start len next q
-
-        b : List ℕ
-        b = take len (drop start ws)
-
-        go : Through (o .state) start b (v .passes .state) → (p : Onward ws next known xs) × (p .state .due ≡ only key)
-        go (unlisted l e) =
-            let stays : skipped (o .state) .due ≡ only key = rw d (only-passes key no-header) in
-            let on : (p : Onward ws next known (v .more)) × (p .state .due ≡ only key) =
-            (rw l at (v .on), subst⁻¹ (λ (st : State). st .due ≡ only key) (v .state-is ∙ sym e) stays) in
-            subst⁻¹ (λ (ys : List Slim). (p : Onward ws next known ys) × (p .state .due ≡ only key)) (rw l at (v .split)) on
-        go (listed l f g e) = absurd (other (step-block ws c id nn start len next q .id-is ∙ sym (key-id (getD b 0 0)) ∙ ap low (come-key b f)))
+      -- blocks of other ids are not listed
+      come-later : (id ≡ low key → ⊥) → (p : Onward ws next known xs) × (p .state .due ≡ only key)
+      unfolding slimPart knownFrom partAt skipped
+      come-later other = go (v .passes .through)
+        where
+          go : Through (o .state) start b (v .passes .state) → (p : Onward ws next known xs) × (p .state .due ≡ only key)
+          go (unlisted l e) =
+              let stays : skipped (o .state) .due ≡ only key = rw d (only-passes key no-header) in
+              let on : (p : Onward ws next known (v .more)) × (p .state .due ≡ only key) =
+              (rw l at (v .on), subst⁻¹ (λ (st : State). st .due ≡ only key) (v .state-is ∙ sym e) stays) in
+              subst⁻¹ (λ (ys : List Slim). (p : Onward ws next known ys) × (p .state .due ≡ only key)) (rw l at (v .split)) on
+          go (listed l f g e) = absurd (other (step-block ws c id nn start len next q .id-is ∙ sym (key-id (getD b 0 0)) ∙ ap low (come-key b f)))
 
   pub reached : {ws : List ℕ} {c : Cursor} {known : Setup} {xs : List Slim} {step : Step} (o : Onward ws c known xs) → o .state .due ≡ only key → Next (low key) ws c step → Reached ws known xs key step
   reached o d (over {stop = stop} q) = absurd (eqb-false _ _ no-end (only-due key endMarker (rw d at (onward-end o stop q))))

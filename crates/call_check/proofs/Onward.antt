@@ -10,9 +10,9 @@ use lib.ListN.{length, take, drop}
 use borrow.Author.Tests.{ltb-false}
 use Rattle.words.specs.Words.{wordsOf}
 use Rattle.words.proofs.Choice.{cond-second}
+use Rattle.file_refusal.specs.declared.Refusal.{Refusal}
 use Rattle.file_walk.specs.declared.Cursor.{Cursor}
 use Rattle.file_walk.specs.declared.Stop.{Stop}
-use Rattle.file_walk.specs.declared.Stop.the-variants.{Refused}
 use Rattle.file_walk.specs.declared.Step.the-variants.{Block, Over}
 use Rattle.file_walk.specs.Walk.{endMarker, cut, frontOf, rawOf, stepAt, Walk, over, block, walk, Part, partsOf}
 use Rattle.file_walk.proofs.Steps.{walkFrom, walk-start, walk-over, walk-block, step-block}
@@ -23,33 +23,33 @@ use Rattle.file_order.specs.Order.{isDue}
 use Rattle.file_order.proofs.KnownLaws.{learnt-raw}
 use Rattle.call_check.specs.declared.judge.State.{State}
 use Rattle.call_check.specs.declared.judge.Judged.{Judged}
-use Rattle.call_check.specs.declared.judge.Judged.the-variants.{Passed, Denied}
+use Rattle.call_check.specs.declared.judge.Judged.the-variants.{Passed}
 use Rattle.call_check.specs.Judge.{firstState, skipped, entered, enteredBy, seenIn, closed, judge, misfit, surveyed}
 use Rattle.call_check.specs.Slims.{slimPart, knownFrom, slims, slimsIn}
 use Rattle.file_read.specs.Read.{partAt}
 use Rattle.call_check.proofs.Turns.{judge-pass, judge-deny}
 use Rattle.call_check.proofs.Seen.{no-denied, Through, unlisted, listed, seen-through, closed-due}
 
-pub refused : (s s′ : State) (num p : ℕ) → judge s (over (Refused num p)) ≡ Passed s′ → ⊥
+pub refused : (s s′ : State) (x : Refusal) → judge s (over (Stop.Refused x)) ≡ Passed s′ → ⊥
 unfolding judge closed
-refused s s′ num p e = no-denied e
+refused s s′ x e = no-denied e
 
 pub no-fuel : (ws : List ℕ) (s s′ : State) (c : Cursor) → judge s (walkFrom zero ws c) ≡ Passed s′ → ⊥
 unfolding walkFrom walk
-no-fuel ws s s′ c e = go (ltb (length ws) (c .at)) e
+no-fuel ws s s′ c e = go _ _ (ltb (length ws) (c .at)) e
   where
-    go : (t : Bool) → judge s (cond t (over (Refused 2 (c .last))) (over (Refused 2 (c .at)))) ≡ Passed s′ → ⊥
-    go true f = refused s s′ 2 (c .last) f
-    go false f = refused s s′ 2 (c .at) f
+    go : (x y : Refusal) (t : Bool) → judge s (cond t (over (Stop.Refused x)) (over (Stop.Refused y))) ≡ Passed s′ → ⊥
+    go x y true f = refused s s′ x f
+    go x y false f = refused s s′ y f
 
 -- a cursor from which an accepted file goes on is no further than its end
 within : (ws : List ℕ) (m : ℕ) (s s′ : State) (c : Cursor) → judge s (walkFrom m ws c) ≡ Passed s′ → c .at ≤ length ws
 unfolding walkFrom
-within ws m s s′ c e = go (ltb (length ws) (c .at)) refl e
+within ws m s s′ c e = go _ (ltb (length ws) (c .at)) refl e
   where
-    go : (t : Bool) → ltb (length ws) (c .at) ≡ t → judge s (cond t (over (Refused 2 (c .last))) (walk m (c .at) (drop (c .at) ws))) ≡ Passed s′ → c .at ≤ length ws
-    go true p f = absurd (refused s s′ 2 (c .last) f)
-    go false p f = ltb-false (length ws) (c .at) p
+    go : (x : Refusal) (t : Bool) → ltb (length ws) (c .at) ≡ t → judge s (cond t (over (Stop.Refused x)) (walk m (c .at) (drop (c .at) ws))) ≡ Passed s′ → c .at ≤ length ws
+    go x true p f = absurd (refused s s′ x f)
+    go x false p f = ltb-false (length ws) (c .at) p
 
 -- a block that goes through: where it ends, and the state after it
 pub record Passes (ws : List ℕ) (m : ℕ) (s s′ : State) (start len : ℕ) (next : Cursor) : Type 0 where
@@ -67,7 +67,7 @@ passes ws m c s s′ id nn start len next q e =
     go : (j : Judged) → seenIn s start (take len (drop start ws)) ≡ j
         → judge s (block start (take len (drop start ws)) (take (rawOf (take len (drop start ws))) (drop (start + len) ws)) (walkFrom m ws next)) ≡ Passed s′
         → Passes ws m s s′ start len next
-    go (Denied num p) r f = absurd (no-denied (sym (judge-deny s start (take len (drop start ws)) _ _ num p r) ∙ f))
+    go (Judged.Refused x) r f = absurd (no-denied (sym (judge-deny s start (take len (drop start ws)) _ _ r) ∙ f))
     go (Passed s₁) r f =
         let on = sym (judge-pass s start (take len (drop start ws)) _ _ s₁ r) ∙ f in
         let step = step-block ws c id nn start len next q in

@@ -7,11 +7,10 @@ use native.Mathlib.Omega.{arith}
 use lib.Dec.{eqb}
 use lib.ListN.{getD}
 use Rattle.words.specs.Words.{low}
+use Rattle.file_refusal.specs.declared.Refusal.{Refusal}
 use Rattle.file_walk.specs.declared.Stop.{Stop}
-use Rattle.file_walk.specs.declared.Stop.the-variants.{End, Refused}
 use Rattle.file_walk.specs.Walk.{endMarker}
 use Rattle.file_rules.specs.declared.Tested.{Tested}
-use Rattle.file_rules.specs.declared.Tested.the-variants.{Good, Bad}
 use Rattle.file_rules.specs.Block.{kept, offsetBy}
 use Rattle.words.proofs.Choice.{cond-first}
 use Rattle.file_rules.proofs.BlockLaws.{no-bad, offset-good}
@@ -20,10 +19,11 @@ use Rattle.file_order.specs.Setup.{rowFor}
 use Rattle.file_order.specs.Order.{keyOf, isDue}
 use Rattle.file_order.proofs.KnownLaws.{row-listed}
 use Rattle.call_check.specs.declared.judge.State.{State}
-use Rattle.call_check.specs.declared.judge.Judged.the-variants.{Passed, Denied}
+use Rattle.call_check.specs.declared.judge.Judged.{Judged}
+use Rattle.call_check.specs.declared.judge.Judged.the-variants.{Passed}
 use Rattle.call_check.specs.Judge.{skipped, enteredBy, testedBy, judgedBy, seenBy, seenIn, closed}
 
-pub no-denied : {num p : ℕ} {s : State} → Denied num p ≡ Passed s → ⊥
+pub no-denied : {x : Refusal} {s : State} → Judged.Refused x ≡ Passed s → ⊥
 no-denied e = let z : _≡_ {A = ℕ} 0 1 = cc in omega arith
 
 passed-same : {s s′ : State} → Passed s ≡ Passed s′ → s ≡ s′
@@ -33,12 +33,12 @@ passed-same e = cc
 pub data Through (s : State) (at : ℕ) (b : List ℕ) (s′ : State) : Type 0 where
   unlisted : kindOf (low (getD b 0 0)) .listed ≡ false → skipped s ≡ s′ → Through s at b s′
   listed : kindOf (low (getD b 0 0)) .listed ≡ true → isDue (s .due) (keyOf (getD b 0 0)) ≡ true
-      → kept (rowFor (s .setup) (getD b 0 0)) b ≡ Good → enteredBy s at b ≡ s′ → Through s at b s′
+      → kept (rowFor (s .setup) (getD b 0 0)) b ≡ Tested.Good → enteredBy s at b ≡ s′ → Through s at b s′
 
-judged-passed : (s s′ : State) (t : Tested) → judgedBy s t ≡ Passed s′ → (t ≡ Good) × (s ≡ s′)
+judged-passed : (s s′ : State) (t : Tested) → judgedBy s t ≡ Passed s′ → (t ≡ Tested.Good) × (s ≡ s′)
 unfolding judgedBy
-judged-passed s s′ Good e = (refl, passed-same e)
-judged-passed s s′ (Bad num p) e = absurd (no-denied e)
+judged-passed s s′ Tested.Good e = (refl, passed-same e)
+judged-passed s s′ (Tested.Refused x) e = absurd (no-denied e)
 
 pub seen-through : (s : State) (at : ℕ) (b : List ℕ) (s′ : State) → seenIn s at b ≡ Passed s′ → Through s at b s′
 unfolding seenIn seenBy testedBy
@@ -54,14 +54,14 @@ seen-through s at b s′ e = go (rowFor (s .setup) (getD b 0 0) .listed) refl e
 
 pub closed-passed : (s s′ : State) (stop : Stop) → closed s stop ≡ Passed s′ → s ≡ s′
 unfolding closed
-closed-passed s s′ (End at left) e =
+closed-passed s s′ (Stop.End at left) e =
     let p = cond-first (isDue (s .due) endMarker) e no-denied in
     let q = cond-first (eqb left 0) (p .1) no-denied in
     passed-same (q .1)
-closed-passed s s′ (Refused num at) e = absurd (no-denied e)
+closed-passed s s′ (Stop.Refused x) e = absurd (no-denied e)
 
 -- at the end of an accepted file the end marker is due
 pub closed-due : (s s′ : State) (stop : Stop) → closed s stop ≡ Passed s′ → isDue (s .due) endMarker ≡ true
 unfolding closed
-closed-due s s′ (End at left) e = cond-first (isDue (s .due) endMarker) e no-denied .0
-closed-due s s′ (Refused num at) e = absurd (no-denied e)
+closed-due s s′ (Stop.End at left) e = cond-first (isDue (s .due) endMarker) e no-denied .0
+closed-due s s′ (Stop.Refused x) e = absurd (no-denied e)

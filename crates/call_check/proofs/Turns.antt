@@ -6,22 +6,23 @@ use Prim.Native.Nat.{ℕ, suc, _+_, _-_, _≤_}
 use native.Mathlib.Nat.{add-zero}
 use native.Mathlib.Omega.{arith}
 use lib.ListN.{length, getD, take, drop}
+use Rattle.file_refusal.specs.{declared.Refusal.Refusal, Refusal.refusal}
 use Rattle.file_walk.specs.declared.Cursor.{Cursor}
 use Rattle.file_walk.specs.declared.Stop.{Stop}
-use Rattle.file_walk.specs.declared.Stop.the-variants.{End, Refused}
 use Rattle.file_walk.specs.declared.Step.{Step}
 use Rattle.file_walk.specs.declared.Step.the-variants.{Block, Over}
 use Rattle.file_walk.specs.Walk.{Walk, block, walked, stepAt, rawOf}
 use Rattle.file_walk.proofs.Steps.{walkFrom, walk-start, walk-over, walk-block, step-block, end-bounds}
 use Rattle.file_rules.specs.declared.Row.{Row}
-use Rattle.file_rules.specs.declared.Tested.the-variants.{Good, Bad}
+use Rattle.file_rules.specs.declared.Tested.{Tested}
 use Rattle.file_rules.specs.Block.{kept, offsetBy}
 use Rattle.call_check.specs.declared.judge.State.{State}
 use Rattle.call_check.specs.declared.judge.Judged.{Judged}
-use Rattle.call_check.specs.declared.judge.Judged.the-variants.{Passed, Denied}
+use Rattle.call_check.specs.declared.judge.Judged.the-variants.{Passed}
 use Rattle.file_order.specs.Setup.{rowFor}
 use Rattle.file_order.specs.Order.{keyOf, isDue}
-use Rattle.call_check.specs.Judge.{firstState, skipped, enteredBy, testedBy, judgedBy, seenBy, seenIn, judgedStep, judge, Near}
+use Rattle.call_check.specs.Judge.{firstState, skipped, enteredBy, testedBy, judgedBy, seenBy, seenIn, judge}
+use Rattle.call_check.specs.Steps.{judgedStep, Near}
 
 -- ---- a block, by what its row, the order and its tests say
 
@@ -31,18 +32,18 @@ module _ (r : Row) (s : State) (at : ℕ) (b : List ℕ) (e : r ≡ rowFor (s .s
   seen-skip l = rw (← e, l)
 
   module _ (l : r .listed ≡ true) where
-    pub seen-order : isDue (s .due) (keyOf (getD b 0 0)) ≡ false → Denied 4 at ≡ seenIn s at b
+    pub seen-order : isDue (s .due) (keyOf (getD b 0 0)) ≡ false → Judged.Refused (refusal 4 at) ≡ seenIn s at b
     unfolding seenIn seenBy testedBy judgedBy offsetBy
     seen-order d = rw (← e, l, d, add-zero)
 
     module _ (d : isDue (s .due) (keyOf (getD b 0 0)) ≡ true) where
-      pub seen-good : offsetBy at (kept r b) ≡ Good → Passed (enteredBy s at b) ≡ seenIn s at b
+      pub seen-good : offsetBy at (kept r b) ≡ Tested.Good → Passed (enteredBy s at b) ≡ seenIn s at b
       unfolding seenIn seenBy testedBy judgedBy
       seen-good g = rw (← e, d, g, l)
 
-      pub seen-bad : (num p : ℕ) → offsetBy at (kept r b) ≡ Bad num p → Denied num p ≡ seenIn s at b
+      pub seen-bad : {x : Refusal} → offsetBy at (kept r b) ≡ Tested.Refused x → Judged.Refused x ≡ seenIn s at b
       unfolding seenIn seenBy testedBy judgedBy
-      seen-bad num p g = rw (← e, d, g, l)
+      seen-bad g = rw (← e, d, g, l)
 
 -- ---- the judgement of a walk, a block at a time
 
@@ -51,9 +52,9 @@ module _ (s : State) (at : ℕ) (b raw : List ℕ) (w : Walk) where
   unfolding judge
   judge-pass s′ e = rw (e, judge)
 
-  pub judge-deny : (num p : ℕ) → seenIn s at b ≡ Denied num p → judge s (block at b raw w) ≡ Denied num p
+  pub judge-deny : {x : Refusal} → seenIn s at b ≡ Judged.Refused x → judge s (block at b raw w) ≡ Judged.Refused x
   unfolding judge
-  judge-deny num p e = rw (e, judge)
+  judge-deny e = rw (e, judge)
 
 -- a step over a file of at most 32,768 words
 pub near : (ws : List ℕ) (c : Cursor) → length ws ≤ 32768 → Near (stepAt ws c)
@@ -63,8 +64,8 @@ near ws c h = go (stepAt ws c) refl
     go (Block id nn start len next) e =
         let s = step-block ws c id nn start len next e in
         omega (arith, s .fits)
-    go (Over (End p left)) e = omega (arith, end-bounds ws c p left e .1)
-    go (Over (Refused num p)) e = tt
+    go (Over (Stop.End p left)) e = omega (arith, end-bounds ws c p left e .1)
+    go (Over (Stop.Refused x)) e = tt
 
 -- ---- the loop: the answer is what the judgement says from the cursor on, with enough fuel left
 
@@ -85,9 +86,9 @@ module _ {ws : List ℕ} {c : Cursor} {s : State} {answer : Judged} (h : Ahead w
     turn-block : answer ≡ judge s (block start (take len (drop start ws)) (take (rawOf (take len (drop start ws))) (drop (start + len) ws)) (walkFrom (h .fuel) ws next))
     turn-block = h .same ∙ ap (judge s) (walk-block (h .fuel) ws c id nn start len next e)
 
-    pub turn-deny : (num p : ℕ) → judgedStep s ws (Block id nn start len next) ≡ Denied num p → Denied num p ≡ answer
+    pub turn-deny : {x : Refusal} → judgedStep s ws (Block id nn start len next) ≡ Judged.Refused x → Judged.Refused x ≡ answer
     unfolding judgedStep
-    turn-deny num p d = sym (turn-block ∙ judge-deny s start (take len (drop start ws)) _ _ num p d)
+    turn-deny d = sym (turn-block ∙ judge-deny s start (take len (drop start ws)) _ _ d)
 
     pub turn-pass : (s′ : State) → judgedStep s ws (Block id nn start len next) ≡ Passed s′ → Ahead ws next s′ answer
     unfolding judgedStep

@@ -4,10 +4,10 @@ use mathlib.Core.Path.{_≡_}
 use Prim.Native.Nat.{ℕ}
 use Rattle.call_check.specs.declared.judge.State.{State}
 use Rattle.call_check.specs.declared.judge.Judged.{Judged}
-use Rattle.call_check.specs.declared.judge.Judged.the-variants.{Passed, Denied}
+use Rattle.call_check.specs.declared.judge.Judged.the-variants.{Passed}
 use Rattle.call_check.specs.declared.check.Outline.{Outline}
 use Rattle.call_check.specs.declared.check.Answer.{Answer}
-use Rattle.call_check.specs.declared.check.Answer.the-variants.{Accepted, Refused}
+use Rattle.call_check.specs.declared.check.Answer.the-variants.{Accepted}
 use Rattle.call_check.specs.Starts.{startsIn}
 use Rattle.call_check.specs.Judge.{surveyed}
 
@@ -17,7 +17,7 @@ outlineOf s = record { function = s .setup .function; starts = s .starts }
 
 unfoldable pub answered : Judged → Answer
 answered (Passed s) = Accepted (outlineOf s)
-answered (Denied num at) = Refused num at
+answered (Judged.Refused r) = Answer.Refused r
 
 -- the answer of Check to a file's bytes
 unfoldable pub verdict : List ℕ → Answer
@@ -27,7 +27,7 @@ verdict file = answered (surveyed file)
 -- refusal's number, the function and the nine starts
 unfoldable pub values : Answer → List ℕ
 values (Accepted r) = 0 ∷ (r .function ∷ startsIn (r .starts))
-values (Refused num at) = num ∷ (at ∷ [])
+values (Answer.Refused r) = r .num ∷ (r .at ∷ [])
 
 -- the promise of Check: its answer has the number and the values of the verdict
 unfoldable pub Checked : List ℕ → Answer → Type 0

@@ -1,30 +1,29 @@
 -- The walk judged block by block: the first fault in file order, or what is known at the end (document 01, Refusal numbers).
 use mathlib.Core.Bool.{Bool, cond, _||_}
 use mathlib.Core.List.{List, []}
-use Prim.Native.Nat.{ℕ, _+_, _%_, _<_}
+use Prim.Native.Nat.{ℕ, _+_, _%_}
 use lib.Dec.{eqb, ltb}
-use lib.ListN.{length, getD, take, drop}
+use lib.ListN.{length, getD}
 use Rattle.words.specs.Words.{low, wordsOf}
-use Rattle.file_walk.specs.declared.Step.{Step}
-use Rattle.file_walk.specs.declared.Step.the-variants.{Block, Over}
+use Rattle.file_refusal.specs.Refusal.{refusal}
 use Rattle.file_walk.specs.declared.Stop.{Stop}
-use Rattle.file_walk.specs.declared.Stop.the-variants.{End, Refused}
+use Rattle.file_walk.specs.declared.Stop.the-variants.{End}
 use Rattle.file_walk.specs.Walk.{Walk, over, block, walked, endMarker}
 use Rattle.file_rules.specs.declared.Row.{Row}
 use Rattle.file_rules.specs.declared.Tested.{Tested}
-use Rattle.file_rules.specs.declared.Tested.the-variants.{Good, Bad}
+use Rattle.file_rules.specs.declared.Tested.the-variants.{Good}
 use Rattle.file_rules.specs.Block.{kept, offsetBy}
 use Rattle.file_order.specs.declared.setup.Setup.{Setup}
 use Rattle.file_order.specs.declared.order.Due.{Due}
 use Rattle.call_check.specs.declared.judge.State.{State}
 use Rattle.call_check.specs.declared.judge.Judged.{Judged}
-use Rattle.call_check.specs.declared.judge.Judged.the-variants.{Passed, Denied}
+use Rattle.call_check.specs.declared.judge.Judged.the-variants.{Passed}
 use Rattle.file_order.specs.Setup.{noSetup, slimOf, learnt, rowFor}
 use Rattle.file_order.specs.Order.{keyOf, only, isDue, passedOver, dueAfter}
-use Rattle.call_check.specs.Starts.{noStarts, noted}
+use Rattle.call_check.specs.Starts.{startsOf, noted}
 
 abbrev pub firstState : State
-firstState = record { due = only 0x01; setup = noSetup; starts = noStarts }
+firstState = record { due = only 0x01; setup = noSetup; starts = startsOf [] }
 
 -- a block that is not listed is passed over
 unfoldable pub skipped : State → State
@@ -40,12 +39,12 @@ enteredBy s at b = entered s (keyOf (getD b 0 0)) at (learnt (s .setup) (slimOf 
 
 -- "order (4), long form not allowed or short (3), then words": a listed block, against what is due and its row
 unfoldable pub testedBy : Row → Due → List ℕ → Tested
-testedBy r d b = cond (isDue d (keyOf (getD b 0 0))) (kept r b) (Bad 4 0)
+testedBy r d b = cond (isDue d (keyOf (getD b 0 0))) (kept r b) (Tested.Refused (refusal 4 0))
 
 -- the state that a test lets through, or its refusal
 unfoldable pub judgedBy : State → Tested → Judged
 judgedBy s Good = Passed s
-judgedBy s (Bad num at) = Denied num at
+judgedBy s (Tested.Refused r) = Judged.Refused r
 
 -- a block that starts at word `at`
 unfoldable pub seenBy : Row → State → ℕ → List ℕ → Judged
@@ -60,18 +59,13 @@ seenIn s at b = seenBy (rowFor (s .setup) (getD b 0 0)) s at b
 -- the end of the walk: "the end marker out of order" is 4, "a word after the end marker" 9 at the first such word
 unfoldable pub closed : State → Stop → Judged
 closed s (End at left) =
-    cond (isDue (s .due) endMarker) (cond (eqb left 0) (Passed s) (Denied 9 (at + 1))) (Denied 4 at)
-closed s (Refused num at) = Denied num at
-
--- one step of the walk over the words ws
-unfoldable pub judgedStep : State → List ℕ → Step → Judged
-judgedStep s ws (Block id nn start len next) = seenIn s start (take len (drop start ws))
-judgedStep s ws (Over stop) = closed s stop
+    cond (isDue (s .due) endMarker) (cond (eqb left 0) (Passed s) (Judged.Refused (refusal 9 (at + 1)))) (Judged.Refused (refusal 4 at))
+closed s (Stop.Refused r) = Judged.Refused r
 
 -- the whole walk
 unfoldable pub judge : State → Walk → Judged
 judge s (over stop) = closed s stop
-judge s (block at b raw w) = elim (seenIn s at b) [ Passed s′ ↦ judge s′ w | Denied num p ↦ Denied num p ]
+judge s (block at b raw w) = elim (seenIn s at b) [ Passed s′ ↦ judge s′ w | Judged.Refused r ↦ Judged.Refused r ]
 
 -- "byte length odd or over 65,536"
 unfoldable pub misfit : List ℕ → Bool
@@ -79,14 +73,4 @@ misfit file = eqb (length file % 2) 1 || ltb 65536 (length file)
 
 -- "The order is 1; then file order"
 unfoldable pub surveyed : List ℕ → Judged
-surveyed file = cond (misfit file) (Denied 1 0) (judge firstState (walked (wordsOf file)))
-
--- ---- what the code asks of a step: it starts in a file of at most 32,768 words
-
-abbrev pub Ends : Stop → Type 0
-Ends (End at left) = at < 65536
-Ends (Refused num at) = Unit {0}
-
-abbrev pub Near : Step → Type 0
-Near (Block id nn start len next) = start < 65536
-Near (Over stop) = Ends stop
+surveyed file = cond (misfit file) (Judged.Refused (refusal 1 0)) (judge firstState (walked (wordsOf file)))

@@ -1,4 +1,5 @@
 pub mod Starts
 pub mod Judge
+pub mod Steps
 pub mod Check
 pub mod Slims

@@ -14,9 +14,13 @@ abbrev pub places : List (ℕ × ℕ)
 places =
     (0x01, 0) ∷ (0x02, 1) ∷ (0x03, 2) ∷ (0x04, 3) ∷ (0x05, 4) ∷ (0x07, 5) ∷ (0x0E, 6) ∷ (0x10, 6) ∷ (0x09, 7) ∷ (0x0F, 8) ∷ []
 
+-- how many they are
+abbrev pub placeCount : ℕ
+placeCount = 9
+
 -- an id that has none, as a histogram's, is past the last
 unfoldable pub placeOf : ℕ → ℕ
-placeOf id = lookup 9 places id
+placeOf id = lookup placeCount places id
 
 -- the starts of the record, in the order of their places
 abbrev pub startsIn : Starts → List ℕ
@@ -37,13 +41,6 @@ startsOf at =
       statistics = getD at 7 absent;
       logger = getD at 8 absent;
     }
-
-abbrev pub noStarts : Starts
-noStarts = startsOf []
-
--- the start of the block with this id
-unfoldable pub startOf : ℕ → Starts → ℕ
-startOf id s = getD (startsIn s) (placeOf id) absent
 
 -- a block with this id starts at word `at`
 unfoldable pub noted : Starts → ℕ → ℕ → Starts

@@ -3,6 +3,7 @@ use crate::judge::Judged;
 use crate::judge::State;
 use crate::judge::survey;
 use crate::starts::Starts;
+use file_refusal::Refusal;
 ghost use mathlib.Core.Path.{_≡_};
 ghost use Rattle.call_check.specs.Check.{Checked};
 
@@ -14,7 +15,7 @@ pub struct Outline {
 
 pub enum Answer {
     Accepted(Outline),
-    Refused { num: u8, at: usize },
+    Refused(Refusal),
 }
 
 // Whether a file is accepted, with its outline, or its first fault.
@@ -27,6 +28,6 @@ pub fn check(file: &[u8]) -> Answer
             let starts = state.starts;
             Answer::Accepted(Outline { function, starts })
         }
-        Judged::Denied { num, at } => Answer::Refused { num, at },
+        Judged::Refused(refusal) => Answer::Refused(refusal),
     }
 }

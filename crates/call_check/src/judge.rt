@@ -3,6 +3,7 @@ use crate::starts::Starts;
 use file_order::order::Due;
 use file_order::order::key_of;
 use file_order::setup::Setup;
+use file_refusal::Refusal;
 use file_rules::Tested;
 use file_rules::keeps;
 use file_walk::Cursor;
@@ -16,7 +17,8 @@ ghost use Prim.Native.Nat.{_<_, _≤_};
 ghost use lib.ListN.{length};
 ghost use Rattle.words.specs.Words.{wordsOf};
 ghost use Rattle.file_walk.specs.Walk.{walked};
-ghost use Rattle.call_check.specs.Judge.{firstState, skipped, enteredBy, seenIn, closed, judgedStep, judge, surveyed, Ends, Near};
+ghost use Rattle.call_check.specs.Judge.{firstState, skipped, enteredBy, seenIn, closed, judge, surveyed};
+ghost use Rattle.call_check.specs.Steps.{judgedStep, Ends, Near};
 
 // What is known between two blocks.
 pub struct State {
@@ -28,7 +30,7 @@ pub struct State {
 // What became of a state: it goes on, or the file is refused.
 pub enum Judged {
     Passed(State),
-    Denied { num: u8, at: usize },
+    Refused(Refusal),
 }
 
 impl State {
@@ -81,11 +83,11 @@ impl State {
             return Judged::Passed(self.skipped());
         }
         if !self.due.has(key_of(header)) {
-            return Judged::Denied { num: 4, at };
+            return Judged::Refused(Refusal { num: 4, at });
         }
         match keeps(b, at, row) {
             Tested::Good => Judged::Passed(self.entered(b, at)),
-            Tested::Bad { num, at } => Judged::Denied { num, at },
+            Tested::Refused(refusal) => Judged::Refused(refusal),
         }
     }
 
@@ -97,14 +99,14 @@ impl State {
         match stop {
             Stop::End { at, left } => {
                 if !self.due.has(0xFFFF) {
-                    return Judged::Denied { num: 4, at };
+                    return Judged::Refused(Refusal { num: 4, at });
                 }
                 if left != 0 {
-                    return Judged::Denied { num: 9, at: at + 1 };
+                    return Judged::Refused(Refusal { num: 9, at: at + 1 });
                 }
                 Judged::Passed(self)
             }
-            Stop::Refused { num, at } => Judged::Denied { num, at },
+            Stop::Refused(refusal) => Judged::Refused(refusal),
         }
     }
 
@@ -145,10 +147,10 @@ pub fn survey(file: &[u8]) -> Judged
     ensures { λ r. ⌜ r ≡ surveyed (now (file .entry)) ⌝ }
 {
     if file.len() % 2 == 1 {
-        return Judged::Denied { num: 1, at: 0 };
+        return Judged::Refused(Refusal { num: 1, at: 0 });
     }
     if 65536 < file.len() {
-        return Judged::Denied { num: 1, at: 0 };
+        return Judged::Refused(Refusal { num: 1, at: 0 });
     }
     judge_blocks(file)
 }

@@ -1,7 +1,8 @@
 // Where the listed blocks of a file start.
+ghost use mathlib.Core.List.{[]};
 ghost use mathlib.Core.Path.{_≡_};
 ghost use lib.ListN.{getD};
-ghost use Rattle.call_check.specs.Starts.{absent, startsIn, noStarts, noted};
+ghost use Rattle.call_check.specs.Starts.{absent, startsIn, startsOf, noted};
 
 // What document 01 calls the starts of the record: of 01, 02, 03, 04, 05, 07, 0E or 10, 09 and 0F; 65,535 for an absent block.
 pub struct Starts {
@@ -20,7 +21,7 @@ pub const ABSENT: u16 = 65535;
 
 impl Starts {
     pub fn none() -> Starts
-        ensures { λ r. ⌜ r ≡ noStarts ⌝ }
+        ensures { λ r. ⌜ r ≡ startsOf [] ⌝ }
     {
         Starts {
             file: ABSENT,

@@ -6,12 +6,13 @@ use Prim.Native.Nat.{ℕ, _≤_, _<_}
 use native.Mathlib.Omega.{arith}
 use borrow.Author.Tests.{lt-ltb, le-ltb}
 use lib.Dec.{eqb}
-use lib.ListN.{length, take, drop, length-drop}
+use lib.ListN.{length, getD, take, drop, length-drop}
 use Rattle.paging.specs.declared.fit.Progress.{Progress}
 use Rattle.paging.specs.Fit.{joined, Filled}
 use Rattle.paging.proofs.FitLaws.{same-progress}
+use Rattle.file_refusal.specs.{declared.Refusal.Refusal, Refusal.refusal}
 use Rattle.call_check.specs.declared.judge.State.{State}
-use Rattle.call_check.specs.declared.judge.Judged.the-variants.{Passed, Denied}
+use Rattle.call_check.specs.declared.judge.Judged.{Judged}
 use Rattle.call_check.specs.Judge.{surveyed}
 use Rattle.call_check.specs.Slims.{slimsIn}
 use Rattle.sheet_page.specs.Rows.{texts}
@@ -23,7 +24,7 @@ use Rattle.paging.specs.Run.{startRun, progressOf, Running, Continued}
 use Rattle.paging.proofs.FilledLaws.{filled-few}
 use Rattle.paging.proofs.RunLaws.{begin, lines-are}
 use Rattle.call_sheet.specs.declared.Reply.{Reply}
-use Rattle.call_sheet.specs.declared.Reply.the-variants.{Written, Refused}
+use Rattle.call_sheet.specs.declared.Reply.the-variants.{Written}
 use Rattle.call_sheet.specs.Reply.{progressIn, askedFor, replied, sheetReply, outputBy, values, Sheeted}
 
 -- ---- section after section
@@ -58,7 +59,7 @@ module _ (file label : List ℕ) (n : ℕ) {d e : List ℕ} where
       all .goes n [] d (subst (λ (r : Run). Running n [] d d r) (sym s) (begin n d)) .filled
 
   -- it has few lines
-  pub ran-few : (s : State) → surveyed file ≡ Passed s → {p : Progress} → Filled (drop n (sheetTexts file label)) d e p → p .lines < 4294967296
+  pub ran-few : (s : State) → surveyed file ≡ Judged.Passed s → {p : Progress} → Filled (drop n (sheetTexts file label)) d e p → p .lines < 4294967296
   ran-few s p f = omega (arith, filled-few f, length-drop n (sheetTexts file label), sheet-few file label s p)
 
 -- ---- the cases
@@ -75,18 +76,18 @@ module _ (file label : List ℕ) (n : ℕ) (before after : List ℕ) where
   as-replied : (r : Reply) → sheetReply file label n (length before) ≡ r → after ≡ outputBy (drop n (sheetTexts file label)) before r → Sheeted file label n before after r
   as-replied r e o = record { answer-is = ap values (sym e); output-is = o ∙ ap (outputBy (drop n (sheetTexts file label)) before) (sym e) }
 
-  pub sheeted-denied : (num at : ℕ) → surveyed file ≡ Denied num at → after ≡ before → Sheeted file label n before after (Refused num at)
+  pub sheeted-denied : (x : Refusal) → surveyed file ≡ Judged.Refused x → after ≡ before → Sheeted file label n before after (Reply.Refused x)
   unfolding sheetReply replied outputBy
-  sheeted-denied num at e o = as-replied (Refused num at) (rw e) o
+  sheeted-denied x e o = as-replied (Reply.Refused x) (rw e) o
 
-  module _ (s : State) (e : surveyed file ≡ Passed s) where
-    pub sheeted-label : (num at : ℕ) → num ≡ 10 → at ≡ 0 → 507 < length label → after ≡ before → Sheeted file label n before after (Refused num at)
+  module _ (s : State) (e : surveyed file ≡ Judged.Passed s) where
+    pub sheeted-label : 507 < length label → after ≡ before → Sheeted file label n before after (Reply.Refused (refusal 10 0))
     unfolding sheetReply replied askedFor outputBy
-    sheeted-label num at q z h o = as-replied (Refused num at) (rw (e, lt-ltb 507 (length label) h, q, z)) o
+    sheeted-label h o = as-replied _ (rw (e, lt-ltb 507 (length label) h)) o
 
-    pub sheeted-room : (num at : ℕ) → num ≡ 11 → at ≡ 0 → length label ≤ 507 → length before < 1024 → after ≡ before → Sheeted file label n before after (Refused num at)
+    pub sheeted-room : length label ≤ 507 → length before < 1024 → after ≡ before → Sheeted file label n before after (Reply.Refused (refusal 11 0))
     unfolding sheetReply replied askedFor outputBy
-    sheeted-room num at q z h l o = as-replied (Refused num at) (rw (e, le-ltb 507 (length label) h, lt-ltb (length before) 1024 l, q, z)) o
+    sheeted-room h l o = as-replied _ (rw (e, le-ltb 507 (length label) h, lt-ltb (length before) 1024 l)) o
 
     pub sheeted-written : (p : Progress) → length label ≤ 507 → 1024 ≤ length before → Filled (drop n (sheetTexts file label)) before after p → Sheeted file label n before after (Written p)
     unfolding sheetReply replied askedFor outputBy
@@ -108,9 +109,9 @@ values-one (Written p) (Written q) e =
     let bytes : p .bytes ≡ q .bytes = cc in
     let flag : _≡_ {A = ℕ} (cond (p .finished) 1 0) (cond (q .finished) 1 0) = cc in
     ap Written (same-progress lines bytes (flag-one (p .finished) (q .finished) flag))
-values-one (Written p) (Refused num at) e = let z : length (values (Written p)) ≡ length (values (Refused num at)) = ap length e in absurd (omega arith)
-values-one (Refused num at) (Written p) e = let z : length (values (Refused num at)) ≡ length (values (Written p)) = ap length e in absurd (omega arith)
-values-one (Refused num at) (Refused m p) e = cc
+values-one (Written p) (Reply.Refused x) e = let z : length (values (Written p)) ≡ length (values (Reply.Refused x)) = ap length e in absurd (omega arith)
+values-one (Reply.Refused x) (Written p) e = let z : length (values (Reply.Refused x)) ≡ length (values (Written p)) = ap length e in absurd (omega arith)
+values-one (Reply.Refused x) (Reply.Refused y) e = ap (λ (vs : List ℕ). Reply.Refused (refusal (getD vs 0 0) (getD vs 1 0))) e
 
 -- two answers to one file, label, line number and output are the same, and leave the same bytes
 pub sheeted-one : {file label : List ℕ} {n : ℕ} {before a b : List ℕ} {r q : Reply} → Sheeted file label n before a r → Sheeted file label n before b q → (r ≡ q) × (a ≡ b)

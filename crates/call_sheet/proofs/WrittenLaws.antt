@@ -12,28 +12,29 @@ use Rattle.words.proofs.WordLaws.{Below}
 use Rattle.paging.specs.declared.fit.Progress.{Progress}
 use Rattle.paging.specs.Fit.{fit}
 use Rattle.paging.proofs.FitLaws.{fit-fits}
+use Rattle.file_refusal.specs.{declared.Refusal.Refusal, Refusal.refusal}
 use Rattle.call_check.specs.declared.judge.State.{State}
 use Rattle.call_check.specs.declared.judge.Judged.{Judged}
-use Rattle.call_check.specs.declared.judge.Judged.the-variants.{Passed, Denied}
 use Rattle.call_check.specs.Judge.{surveyed}
 use Rattle.sheet_page.specs.Sheet.{sheetTexts}
 use Rattle.sheet_page.specs.Limits.{Short}
 use Rattle.sheet_page.proofs.Shortness.{lines-short}
 use Rattle.sheet_page.proofs.Fewness.{sheet-few}
 use Rattle.paging.proofs.FilledLaws.{fit-le}
-use Rattle.call_sheet.specs.declared.Reply.the-variants.{Written, Refused}
+use Rattle.call_sheet.specs.declared.Reply.{Reply}
+use Rattle.call_sheet.specs.declared.Reply.the-variants.{Written}
 use Rattle.call_sheet.specs.Reply.{progressIn, askedFor, replied, sheetReply, Sheeted}
 use Rattle.call_sheet.proofs.ReplyLaws.{values-one}
 
 -- the file is accepted, the label and the output are as they may be, and the numbers are those of the lines that fit
 pub record Success (file label : List ℕ) (n room : ℕ) (p : Progress) : Type 0 where
   pub state : State
-  pub passed : surveyed file ≡ Passed state
+  pub passed : surveyed file ≡ Judged.Passed state
   pub brief : length label ≤ 507
   pub roomy : 1024 ≤ room
   pub came : p ≡ progressIn room (drop n (sheetTexts file label))
 
-no-refusal : {p : Progress} {num at : ℕ} → Written p ≡ Refused num at → ⊥
+no-refusal : {p : Progress} {x : Refusal} → Written p ≡ Reply.Refused x → ⊥
 no-refusal e = let z : _≡_ {A = ℕ} 0 1 = cc in omega arith
 
 pub success : {file label : List ℕ} {n : ℕ} {before after : List ℕ} (p : Progress) → Sheeted file label n before after (Written p) → Success file label n (length before) p
@@ -41,11 +42,11 @@ unfolding sheetReply replied askedFor
 success {file} {label} {n} {before} p w = go (surveyed file) refl (values-one (Written p) (sheetReply file label n (length before)) (w .answer-is))
   where
     go : (j : Judged) → surveyed file ≡ j → Written p ≡ replied label (length before) (drop n (sheetTexts file label)) j → Success file label n (length before) p
-    go (Denied num at) e q = absurd (no-refusal q)
-    go (Passed s) e q = go₂ (ltb 507 (length label)) (ltb (length before) 1024) refl refl q
+    go (Judged.Refused x) e q = absurd (no-refusal q)
+    go (Judged.Passed s) e q = go₂ (ltb 507 (length label)) (ltb (length before) 1024) refl refl q
       where
         go₂ : (a b : Bool) → ltb 507 (length label) ≡ a → ltb (length before) 1024 ≡ b
-            → Written p ≡ cond a (Refused 10 0) (cond b (Refused 11 0) (Written (progressIn (length before) (drop n (sheetTexts file label))))) → Success file label n (length before) p
+            → Written p ≡ cond a (Reply.Refused (refusal 10 0)) (cond b (Reply.Refused (refusal 11 0)) (Written (progressIn (length before) (drop n (sheetTexts file label))))) → Success file label n (length before) p
         go₂ true b x y r = absurd (no-refusal r)
         go₂ false true x y r = absurd (no-refusal r)
         go₂ false false x y r = record { state = s; passed = e; brief = ltb-false 507 (length label) x; roomy = ltb-false (length before) 1024 y; came = cc }

@@ -2,6 +2,7 @@
 use call_check::judge::Judged;
 use call_check::judge::State;
 use call_check::judge::survey;
+use file_refusal::Refusal;
 use paging::fit::Progress;
 use paging::run::Run;
 use sheet_sections::buffer_section;
@@ -19,7 +20,7 @@ ghost use Rattle.sheet_sections.specs.Given.{IsAcceptedWith};
 // The answer of Sheet: how many lines and bytes were written and whether they are the last, or a refusal.
 pub enum Reply {
     Written(Progress),
-    Refused { num: u8, at: usize },
+    Refused(Refusal),
 }
 
 // Section after section, from line n on.
@@ -46,10 +47,10 @@ fn answer<'a>(file: &'a [u8], label: &'a [u8], state: State, n: u32, out: &mut [
     ensures { λ r. ⌜ Sheeted (now (file .entry)) (now (label .entry)) n (now (out .entry)) (now (out .exit)) r ⌝ }
 {
     if 507 < label.len() {
-        return Reply::Refused { num: 10, at: 0 };
+        return Reply::Refused(Refusal { num: 10, at: 0 });
     }
     if out.len() < 1024 {
-        return Reply::Refused { num: 11, at: 0 };
+        return Reply::Refused(Refusal { num: 11, at: 0 });
     }
     Reply::Written(fill_sheet(out, file, label, state, n))
 }
@@ -60,6 +61,6 @@ pub fn sheet<'a>(file: &'a [u8], label: &'a [u8], n: u32, out: &mut [u8]) -> Rep
 {
     match survey(file) {
         Judged::Passed(state) => answer(file, label, state, n, out),
-        Judged::Denied { num, at } => Reply::Refused { num, at },
+        Judged::Refused(refusal) => Reply::Refused(refusal),
     }
 }

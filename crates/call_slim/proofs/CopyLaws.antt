@@ -141,7 +141,7 @@ walk-short ws below few (suc m) c s s′ e = go (stepAt ws c) refl (walk-short w
   where
     go : (x : Step) → stepAt ws c ≡ x → ((c : Cursor) (s s′ : State) → judge s (walkFrom m ws c) ≡ Passed s′ → length (slimWords (slims (s .setup) (partsOf (walkFrom m ws c)))) + c .at ≤ length ws)
         → length (slimWords (slims (s .setup) (partsOf (walkFrom (suc m) ws c)))) + c .at ≤ length ws
-    go (Over (Refused num p)) q ih = absurd (refused s s′ num p (sym (ap (judge s) (walk-over m ws c (Refused num p) q)) ∙ e))
+    go (Over (Refused x)) q ih = absurd (refused s s′ x (sym (ap (judge s) (walk-over m ws c (Refused x) q)) ∙ e))
     go (Over (End p left)) q ih =
         let b = end-bounds ws c p left q in
         omega (arith, b .0, b .1, ap length (ap slimWords (slims-over m ws c (s .setup) (End p left) q) ∙ words-end))

@@ -5,16 +5,17 @@ use mathlib.Core.Path.{_≡_, refl, sym, ap, _∙_}
 use Prim.Native.Nat.{ℕ, _*_, _≤_, _<_}
 use native.Mathlib.Omega.{arith}
 use lib.Dec.{ltb}
-use lib.ListN.{length}
+use lib.ListN.{length, getD}
 use borrow.Author.Tests.{lt-ltb, le-ltb, ltb-false}
 use Rattle.words.proofs.WordLaws.{Below, bytes-length, words-length}
+use Rattle.file_refusal.specs.{declared.Refusal.Refusal, Refusal.refusal}
 use Rattle.call_check.specs.declared.judge.State.{State}
 use Rattle.call_check.specs.declared.judge.Judged.{Judged}
-use Rattle.call_check.specs.declared.judge.Judged.the-variants.{Passed, Denied}
+use Rattle.call_check.specs.declared.judge.Judged.the-variants.{Passed}
 use Rattle.call_check.specs.Judge.{surveyed}
 use Rattle.call_check.specs.Slims.{slimsIn}
 use Rattle.call_slim.specs.declared.Reply.{Reply}
-use Rattle.call_slim.specs.declared.Reply.the-variants.{Written, Refused}
+use Rattle.call_slim.specs.declared.Reply.the-variants.{Written}
 use Rattle.call_slim.specs.Copy.{slimWords, slimCopy, roomFor, replied, slimReply, outputBy, values, Slimmed}
 use Rattle.call_slim.proofs.CopyLaws.{no-longer}
 
@@ -28,18 +29,18 @@ copy-no-longer file s e below = omega (arith, copy-length file, no-longer file s
 
 -- ---- the cases
 
-pub no-room : (copy : List ℕ) (room num at : ℕ) → room < length copy → num ≡ 11 → at ≡ 0 → Refused num at ≡ roomFor copy room
+pub no-room : (copy : List ℕ) (room : ℕ) → room < length copy → Reply.Refused (refusal 11 0) ≡ roomFor copy room
 unfolding roomFor
-no-room copy room num at h n p = rw (lt-ltb room (length copy) h, n, p)
+no-room copy room h = rw (lt-ltb room (length copy) h)
 
 pub has-room : (copy : List ℕ) (room n : ℕ) → length copy ≤ room → n ≡ length copy → Written n ≡ roomFor copy room
 unfolding roomFor
 has-room copy room n h e = rw (le-ltb room (length copy) h, e)
 
 -- a refusal leaves every byte as it was
-pub left-alone : (copy before : List ℕ) (num at : ℕ) → before ≡ outputBy copy before (Refused num at)
+pub left-alone : (copy before : List ℕ) (x : Refusal) → before ≡ outputBy copy before (Reply.Refused x)
 unfolding outputBy
-left-alone copy before num at = refl
+left-alone copy before x = refl
 
 module _ (file before after : List ℕ) where
   pub slimmed-passed : (s : State) → surveyed file ≡ Passed s → (r : Reply) → r ≡ roomFor (slimCopy file) (length before) → after ≡ outputBy (slimCopy file) before r → Slimmed file before after r
@@ -48,20 +49,20 @@ module _ (file before after : List ℕ) where
       let same : slimReply file (length before) ≡ r = ap (replied (slimCopy file) (length before)) e ∙ sym q in
       record { answer-is = ap values (sym same); output-is = o ∙ ap (outputBy (slimCopy file) before) (sym same) }
 
-  pub slimmed-denied : (num at : ℕ) → surveyed file ≡ Denied num at → after ≡ before → Slimmed file before after (Refused num at)
+  pub slimmed-denied : (x : Refusal) → surveyed file ≡ Judged.Refused x → after ≡ before → Slimmed file before after (Reply.Refused x)
   unfolding slimReply replied
-  slimmed-denied num at e o =
-      let same : slimReply file (length before) ≡ Refused num at = ap (replied (slimCopy file) (length before)) e in
-      record { answer-is = ap values (sym same); output-is = o ∙ left-alone (slimCopy file) before num at ∙ ap (outputBy (slimCopy file) before) (sym same) }
+  slimmed-denied x e o =
+      let same : slimReply file (length before) ≡ Reply.Refused x = ap (replied (slimCopy file) (length before)) e in
+      record { answer-is = ap values (sym same); output-is = o ∙ left-alone (slimCopy file) before x ∙ ap (outputBy (slimCopy file) before) (sym same) }
 
 -- ---- one answer
 
 pub values-one : (a b : Reply) → values a ≡ values b → a ≡ b
 unfolding values
 values-one (Written n) (Written m) e = cc
-values-one (Written n) (Refused num at) e = let z : length (values (Written n)) ≡ length (values (Refused num at)) = ap length e in absurd (omega arith)
-values-one (Refused num at) (Written n) e = let z : length (values (Refused num at)) ≡ length (values (Written n)) = ap length e in absurd (omega arith)
-values-one (Refused num at) (Refused m p) e = cc
+values-one (Written n) (Reply.Refused x) e = let z : length (values (Written n)) ≡ length (values (Reply.Refused x)) = ap length e in absurd (omega arith)
+values-one (Reply.Refused x) (Written n) e = let z : length (values (Reply.Refused x)) ≡ length (values (Written n)) = ap length e in absurd (omega arith)
+values-one (Reply.Refused x) (Reply.Refused y) e = ap (λ (vs : List ℕ). Reply.Refused (refusal (getD vs 0 0) (getD vs 1 0))) e
 
 -- two answers to one file and one output are the same, and leave the same bytes
 pub slimmed-one : {file before a b : List ℕ} {r q : Reply} → Slimmed file before a r → Slimmed file before b q → (r ≡ q) × (a ≡ b)
@@ -74,10 +75,10 @@ pub slimmed-fits : {file before after : List ℕ} {r : Reply} → Slimmed file b
 unfolding slimReply replied roomFor
 slimmed-fits {file} {before} s n e = go (surveyed file) (values-one (Written n) (slimReply file (length before)) (ap values (sym e) ∙ s .answer-is))
   where
-    room : (t : Bool) → ltb (length before) (length (slimCopy file)) ≡ t → Written n ≡ cond t (Refused 11 0) (Written (length (slimCopy file))) → n ≤ length before
+    room : (t : Bool) → ltb (length before) (length (slimCopy file)) ≡ t → Written n ≡ cond t (Reply.Refused (refusal 11 0)) (Written (length (slimCopy file))) → n ≤ length before
     room true p q = let z : _≡_ {A = ℕ} 0 1 = cc in absurd (omega arith)
     room false p q = let z : n ≡ length (slimCopy file) = cc in omega (arith, z, ltb-false (length before) (length (slimCopy file)) p)
 
     go : (j : Judged) → Written n ≡ replied (slimCopy file) (length before) j → n ≤ length before
     go (Passed s′) q = room (ltb (length before) (length (slimCopy file))) refl q
-    go (Denied num at) q = let z : _≡_ {A = ℕ} 0 1 = cc in absurd (omega arith)
+    go (Judged.Refused x) q = let z : _≡_ {A = ℕ} 0 1 = cc in absurd (omega arith)

@@ -7,14 +7,15 @@ use lib.Dec.{ltb}
 use lib.ListN.{length}
 use Rattle.words.specs.Words.{bytesOf}
 use Rattle.text.specs.Text.{over}
+use Rattle.file_refusal.specs.Refusal.{refusal}
 use Rattle.file_walk.specs.Walk.{endMarker}
 use Rattle.file_rules.specs.Slim.{Slim, wordsIn}
 use Rattle.call_check.specs.declared.judge.Judged.{Judged}
-use Rattle.call_check.specs.declared.judge.Judged.the-variants.{Passed, Denied}
+use Rattle.call_check.specs.declared.judge.Judged.the-variants.{Passed}
 use Rattle.call_check.specs.Judge.{surveyed}
 use Rattle.call_check.specs.Slims.{slimsIn}
 use Rattle.call_slim.specs.declared.Reply.{Reply}
-use Rattle.call_slim.specs.declared.Reply.the-variants.{Written, Refused}
+use Rattle.call_slim.specs.declared.Reply.the-variants.{Written}
 
 -- "The listed blocks and raw contents in order .. ; the end marker"
 unfoldable pub slimWords : List Slim → List ℕ
@@ -28,12 +29,12 @@ slimCopy file = bytesOf (slimWords (slimsIn file))
 
 -- "11 .. output .. under the slim length": an accepted file, and an output of `room` bytes
 unfoldable pub roomFor : List ℕ → ℕ → Reply
-roomFor copy room = cond (ltb room (length copy)) (Refused 11 0) (Written (length copy))
+roomFor copy room = cond (ltb room (length copy)) (Reply.Refused (refusal 11 0)) (Written (length copy))
 
 -- "The order is 1; then file order; .. then 11"
 unfoldable pub replied : List ℕ → ℕ → Judged → Reply
 replied copy room (Passed s) = roomFor copy room
-replied copy room (Denied num at) = Refused num at
+replied copy room (Judged.Refused r) = Reply.Refused r
 
 -- the answer of Slim to a file and an output of `room` bytes
 unfoldable pub slimReply : List ℕ → ℕ → Reply
@@ -42,13 +43,13 @@ slimReply file room = replied (slimCopy file) room (surveyed file)
 -- the output after an answer: "Refusals .. write no byte; a success writes only the bytes it counts"
 unfoldable pub outputBy : List ℕ → List ℕ → Reply → List ℕ
 outputBy copy before (Written n) = over copy before
-outputBy copy before (Refused num at) = before
+outputBy copy before (Reply.Refused r) = before
 
 -- document 01's numbers and values for each answer: a refusal's number and position; for a success 0, which is no refusal's
 -- number, at 0, and the byte length
 unfoldable pub values : Reply → List ℕ
 values (Written n) = 0 ∷ (0 ∷ (n ∷ []))
-values (Refused num at) = num ∷ (at ∷ [])
+values (Reply.Refused r) = r .num ∷ (r .at ∷ [])
 
 -- the promise of Slim: its answer has the number and the values of the reply, and the output is as the reply leaves it
 pub record Slimmed (file before after : List ℕ) (answer : Reply) : Type 0 where

@@ -2,6 +2,7 @@
 use call_check::judge::Judged;
 use call_check::judge::survey;
 use file_order::setup::Setup;
+use file_refusal::Refusal;
 use file_rules::Row;
 use file_slim::put_slim;
 use file_slim::put_word;
@@ -26,7 +27,7 @@ ghost use Rattle.call_slim.specs.Parts.{IsAccepted, partWords, Within};
 // The answer of Slim: how many bytes were written, or a refusal.
 pub enum Reply {
     Written(usize),
-    Refused { num: u8, at: usize },
+    Refused(Refusal),
 }
 
 // The row of a block, by what is known before it.
@@ -127,7 +128,7 @@ fn put_whole(file: &[u8], out: &mut [u8]) -> Reply
 {
     let bytes = 2 * copy_words(file);
     if out.len() < bytes {
-        return Reply::Refused { num: 11, at: 0 };
+        return Reply::Refused(Refusal { num: 11, at: 0 });
     }
     Reply::Written(put_copy(out, file))
 }
@@ -138,6 +139,6 @@ pub fn slim(file: &[u8], out: &mut [u8]) -> Reply
 {
     match survey(file) {
         Judged::Passed(_) => put_whole(file, out),
-        Judged::Denied { num, at } => Reply::Refused { num, at },
+        Judged::Refused(refusal) => Reply::Refused(refusal),
     }
 }

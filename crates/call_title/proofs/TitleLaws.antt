@@ -12,14 +12,15 @@ use Rattle.words.specs.Words.{wordsOf, bytesOf}
 use Rattle.words.proofs.Choice.{cond-second}
 use Rattle.words.proofs.WordLaws.{Below, bytes-drop, bytes-of-words}
 use Rattle.text.specs.Text.{beforeNull}
+use Rattle.file_refusal.specs.declared.Refusal.{Refusal}
 use Rattle.file_tables.specs.Table.{rowOf}
 use Rattle.call_check.specs.declared.judge.State.{State}
 use Rattle.call_check.specs.declared.judge.Judged.{Judged}
-use Rattle.call_check.specs.declared.judge.Judged.the-variants.{Passed, Denied}
+use Rattle.call_check.specs.declared.judge.Judged.the-variants.{Passed, Refused}
 use Rattle.call_check.specs.Judge.{surveyed}
-use Rattle.call_check.specs.Starts.{placeOf, startOf}
+use Rattle.call_check.specs.Starts.{placeOf}
 use Rattle.call_check.specs.Slims.{slimsIn, slimAfter, slimAt}
-use Rattle.call_check.proofs.StartLaws.{own}
+use Rattle.call_check.proofs.StartLaws.{startOf, own}
 use Rattle.call_check.proofs.Found.{found}
 use Rattle.call_check.proofs.FoundWords.{accepted-fits, accepted-few}
 use Rattle.text.proofs.Nulls.{text-front}
@@ -38,9 +39,9 @@ pub text-some : (start : ℕ) (text : List ℕ) (at : ℕ) → (length text ≡ 
 unfolding textAt
 text-some start text at e q = rw (ne-eqb (length text) 0 e, q)
 
-pub title-denied : (file : List ℕ) (num at : ℕ) → surveyed file ≡ Denied num at → titleAt file ≡ Label
+pub title-denied : {x : Refusal} (file : List ℕ) → surveyed file ≡ Refused x → titleAt file ≡ Label
 unfolding titleAt titleIn
-title-denied file num at e = rw e
+title-denied file e = rw e
 
 module _ (file : List ℕ) (s : State) (e : surveyed file ≡ Passed s) where
   title-passed : titleAt file ≡ textAt (s .starts .title) (titleText (slimsIn file))
@@ -79,7 +80,7 @@ unfolding titleAt titleIn textAt
 title-part file small at n h = go (surveyed file) refl h
   where
     go : (j : Judged) → surveyed file ≡ j → titleIn file j ≡ Text at n → Stands file at n
-    go (Denied num p) e f = absurd (no-label f)
+    go (Refused x) e f = absurd (no-label f)
     go (Passed s) e f =
         let text = titleText (slimsIn file) in
         let some = cond-second (eqb (length text) 0) f no-label in
@@ -90,9 +91,9 @@ title-part file small at n h = go (surveyed file) refl h
 -- ---- what Title hands back
 
 module _ (file label : RefT (List ℕ)) where
-  pub title-refused : (num at : ℕ) → surveyed (file .now) ≡ Denied num at → titleOf file label ≡ seen label
+  pub title-refused : {x : Refusal} → surveyed (file .now) ≡ Refused x → titleOf file label ≡ seen label
   unfolding titleOf handed
-  title-refused num at e = rw (title-denied (file .now) num at e)
+  title-refused e = rw (title-denied (file .now) e)
 
   -- its bytes, for an accepted file: the text of the file's slim block 03, or the label where that is empty
   pub title-bytes : (s : State) → surveyed (file .now) ≡ Passed s → Below 256 (file .now)

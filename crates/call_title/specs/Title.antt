@@ -11,7 +11,7 @@ use Rattle.words.specs.Words.{bytesOf}
 use Rattle.text.specs.Text.{beforeNull}
 use Rattle.file_rules.specs.Slim.{Slim}
 use Rattle.call_check.specs.declared.judge.Judged.{Judged}
-use Rattle.call_check.specs.declared.judge.Judged.the-variants.{Passed, Denied}
+use Rattle.call_check.specs.declared.judge.Judged.the-variants.{Passed, Refused}
 use Rattle.call_check.specs.Judge.{surveyed}
 use Rattle.call_check.specs.Slims.{slimsIn, slimAt}
 use Rattle.call_title.specs.declared.TitleAt.{TitleAt}
@@ -27,7 +27,7 @@ textAt start text = cond (eqb (length text) 0) Label (Text (2 * (start + 1)) (le
 
 unfoldable pub titleIn : List ℕ → Judged → TitleAt
 titleIn file (Passed s) = textAt (s .starts .title) (titleText (slimsIn file))
-titleIn file (Denied num at) = Label
+titleIn file (Refused r) = Label
 
 -- where the title of a file stands: n bytes from a byte of the file on, or in the label
 unfoldable pub titleAt : List ℕ → TitleAt

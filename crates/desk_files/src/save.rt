@@ -65,9 +65,9 @@ fn write_sheet<'a>(fd: i32, file: &'a [u8], label: &'a [u8], out: &mut [u8]) -> 
     let mut n = 0;
     loop {
         match sheet(file, label, n, out) {
-            call_sheet::Reply::Refused { num, at } => {
+            call_sheet::Reply::Refused(refusal) => {
                 let front = front_of(file);
-                return Outcome::Refused { num, at, front };
+                return Outcome::Refused { refusal, front };
             }
             call_sheet::Reply::Written(p) => {
                 let size = p.bytes;
@@ -89,9 +89,9 @@ fn write_slim(fd: i32, file: &[u8], out: &mut [u8]) -> Outcome
     ensures { λ r. ⌜ Said (outcomeOf Slims (now (file .entry)) []) r ⌝ }
 {
     match slim(file, out) {
-        call_slim::Reply::Refused { num, at } => {
+        call_slim::Reply::Refused(refusal) => {
             let front = front_of(file);
-            Outcome::Refused { num, at, front }
+            Outcome::Refused { refusal, front }
         }
         call_slim::Reply::Written(bytes) => {
             if !io::write_all(fd, &out[0..bytes]) {

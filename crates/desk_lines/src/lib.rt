@@ -2,6 +2,7 @@
 use desk_words::Front;
 use desk_words::put_cause;
 use desk_words::put_refusal;
+use file_refusal::Refusal;
 use text::decimal::put_decimal;
 use text::put::put_byte;
 use text::put::put_bytes;
@@ -32,7 +33,7 @@ pub enum Outcome {
     Converted { lines: u32 },
     Copied { bytes: usize },
     Accepted,
-    Refused { num: u8, at: usize, front: Front },
+    Refused { refusal: Refusal, front: Front },
     Unread { error: u16 },
     Unwritten { error: u16 },
     Kept { by: Taken },
@@ -52,7 +53,7 @@ pub fn fate_of(o: Outcome) -> Fate
         Outcome::Converted { lines } => Fate::Done,
         Outcome::Copied { bytes } => Fate::Done,
         Outcome::Accepted => Fate::Done,
-        Outcome::Refused { num, at, front } => Fate::Refused,
+        Outcome::Refused { refusal, front } => Fate::Refused,
         Outcome::Unread { error } => Fate::Failed,
         Outcome::Unwritten { error } => Fate::Failed,
         Outcome::Kept { by } => Fate::Failed,
@@ -186,7 +187,7 @@ fn put_outcome(out: &mut [u8], path: &[u8], o: Outcome) -> usize
         Outcome::Converted { lines } => put_count(out, lines as u64, b" lines"),
         Outcome::Copied { bytes } => put_count(out, bytes as u64, b" bytes"),
         Outcome::Accepted => put_bytes(out, b"accepted"),
-        Outcome::Refused { num, at, front } => put_refusal(out, num, at, front),
+        Outcome::Refused { refusal, front } => put_refusal(out, refusal, front),
         Outcome::Unread { error } => put_failure(out, b"not read: ", error),
         Outcome::Unwritten { error } => put_failure(out, b"not written in its folder: ", error),
         Outcome::Kept { by } => put_kept(out, path, by),

@@ -1,7 +1,7 @@
 -- Laws of what stands at a target: texts that are the same, and a file that is its own slim copy.
 use mathlib.Core.Bool.{Bool, true, false, _&&_, true≢false}
-use mathlib.Core.List.{List, [], _∷_, _++_}
-use mathlib.Core.Path.{_≡_, refl, sym, ap, _∙_, subst}
+use mathlib.Core.List.{List, [], _∷_}
+use mathlib.Core.Path.{_≡_, refl, sym, ap, _∙_}
 use Prim.Native.Nat.{ℕ, _-_, _≤_}
 use native.Mathlib.Nat.{sub-zero}
 use native.Mathlib.Omega.{arith}
@@ -11,11 +11,11 @@ use lib.ListN.{length, take, drop}
 use lib.Seq.{take-append-seam}
 use Rattle.words.proofs.WordLaws.{Below}
 use Rattle.text.specs.Text.{over}
+use Rattle.file_refusal.specs.declared.Refusal.{Refusal}
 use Rattle.call_check.specs.declared.judge.Judged.{Judged}
-use Rattle.call_check.specs.declared.judge.Judged.the-variants.{Passed, Denied}
 use Rattle.call_check.specs.Judge.{surveyed}
 use Rattle.call_slim.specs.declared.Reply.{Reply}
-use Rattle.call_slim.specs.declared.Reply.the-variants.{Written, Refused}
+use Rattle.call_slim.specs.declared.Reply.the-variants.{Written}
 use Rattle.call_slim.specs.Copy.{slimCopy, roomFor, replied, slimReply, outputBy, Slimmed}
 use Rattle.call_slim.proofs.ReplyLaws.{values-one, copy-no-longer}
 use Rattle.desk_targets.specs.declared.Form.{Form}
@@ -50,14 +50,14 @@ same-is {a} {b} {r} w = go r (same a b) refl refl
 
 module _ {file before after : List ℕ} (below : Below 256 file) (roomy : length file ≤ length before) where
   -- a file that Slim refuses
-  pub refused-not : {num at : ℕ} → Slimmed file before after (Refused num at) → false ≡ isSlim file
+  pub refused-not : {x : Refusal} → Slimmed file before after (Reply.Refused x) → false ≡ isSlim file
   unfolding slimReply replied roomFor isSlim isItself
-  refused-not {num} {at} w = go (surveyed file) refl (values-one (Refused num at) (slimReply file (length before)) (w .answer-is))
+  refused-not {x} w = go (surveyed file) refl (values-one (Reply.Refused x) (slimReply file (length before)) (w .answer-is))
     where
-      go : (j : Judged) → surveyed file ≡ j → Refused num at ≡ replied (slimCopy file) (length before) j → false ≡ isItself file j
-      go (Denied k p) e q = refl
-      go (Passed s) e q =
-          let z : Refused num at ≡ Written (length (slimCopy file)) = rw (le-ltb (length before) (length (slimCopy file)) (omega (arith, copy-no-longer file s e below))) at q in
+      go : (j : Judged) → surveyed file ≡ j → Reply.Refused x ≡ replied (slimCopy file) (length before) j → false ≡ isItself file j
+      go (Judged.Refused y) e q = refl
+      go (Judged.Passed s) e q =
+          let z : Reply.Refused x ≡ Written (length (slimCopy file)) = rw (le-ltb (length before) (length (slimCopy file)) (omega (arith, copy-no-longer file s e below))) at q in
           let y : _≡_ {A = ℕ} 0 1 = cc in absurd (omega arith)
 
   -- and one that it copies: the output's front is the slim copy
@@ -67,8 +67,8 @@ module _ {file before after : List ℕ} (below : Below 256 file) (roomy : length
     where
       go : (j : Judged) → surveyed file ≡ j → Written n ≡ replied (slimCopy file) (length before) j → after ≡ outputBy (slimCopy file) before (replied (slimCopy file) (length before) j)
           → same (take (n - 0) after) file ≡ isItself file j
-      go (Denied k p) e q o = let z : _≡_ {A = ℕ} 0 1 = cc in absurd (omega arith)
-      go (Passed s) e q o =
+      go (Judged.Refused y) e q o = let z : _≡_ {A = ℕ} 0 1 = cc in absurd (omega arith)
+      go (Judged.Passed s) e q o =
           let fits = le-ltb (length before) (length (slimCopy file)) (omega (arith, copy-no-longer file s e below)) in
           let a : Written n ≡ Written (length (slimCopy file)) = rw fits at q in
           let k : n ≡ length (slimCopy file) = cc in

@@ -7,7 +7,7 @@ use lib.Dec.{eqb}
 use lib.ListN.{length, take, drop}
 use Rattle.text.specs.Ascii.{ascii}
 use Rattle.call_check.specs.declared.judge.Judged.{Judged}
-use Rattle.call_check.specs.declared.judge.Judged.the-variants.{Passed, Denied}
+use Rattle.call_check.specs.declared.judge.Judged.the-variants.{Passed, Refused}
 use Rattle.call_check.specs.Judge.{surveyed}
 use Rattle.call_slim.specs.Copy.{slimCopy}
 use Rattle.desk_lines.specs.declared.Taken.{Taken}
@@ -38,7 +38,7 @@ isSheet bytes = same (take 5 bytes) (ascii "unit=")
 -- "FILE.slim is its own slim copy"
 unfoldable pub isItself : List ℕ → Judged → Bool
 isItself bytes (Passed s) = same (slimCopy bytes) bytes
-isItself bytes (Denied num at) = false
+isItself bytes (Refused r) = false
 
 unfoldable pub isSlim : List ℕ → Bool
 isSlim bytes = isItself bytes (surveyed bytes)

@@ -63,7 +63,7 @@ fn is_slim(bytes: &[u8], out: &mut [u8]) -> bool
     ensures { λ r. ⌜ r ≡ isSlim (now (bytes .entry)) ⌝ }
 {
     match slim(bytes, out) {
-        Reply::Refused { num, at } => false,
+        Reply::Refused(refusal) => false,
         Reply::Written(n) => is_same(&out[0..n], bytes),
     }
 }

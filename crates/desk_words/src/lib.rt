@@ -1,4 +1,5 @@
 // Refusals and errors in plain words.
+use file_refusal::Refusal;
 use text::decimal::put_decimal;
 use text::decimal::put_short;
 use text::put::put_bytes;
@@ -8,7 +9,7 @@ ghost use lib.ListN.{length};
 ghost use Rattle.text.specs.Ascii.{ascii};
 ghost use Rattle.text.specs.Decimal.{decimal};
 ghost use Rattle.text.specs.Text.{Wrote, named};
-ghost use Rattle.desk_words.specs.Meanings.{meanings, causes, doubt, refusal, cause};
+ghost use Rattle.desk_words.specs.Meanings.{meanings, causes, doubt, refusalWords, cause};
 
 // How a file begins: as a meter file does, by block 01; otherwise; or not at all.
 pub enum Front {
@@ -61,14 +62,14 @@ fn put_doubt(out: &mut [u8], front: Front) -> usize
     }
 }
 
-pub fn put_refusal(out: &mut [u8], num: u8, at: usize, front: Front) -> usize
+pub fn put_refusal(out: &mut [u8], refusal: Refusal, front: Front) -> usize
     requires { ⌜ 145 ≤ length (now out) ⌝ }
-    ensures { λ r. ⌜ Wrote (refusal num at front) 145 (now (out .entry)) (now (out .exit)) r ⌝ }
+    ensures { λ r. ⌜ Wrote (refusalWords refusal front) 145 (now (out .entry)) (now (out .exit)) r ⌝ }
 {
     let a = put_bytes(out, b"refused ");
-    let b = a + put_short(&mut out[a..], num as u64);
-    let c = b + put_word(&mut out[b..], at);
-    let d = c + put_meaning(&mut out[c..], num);
+    let b = a + put_short(&mut out[a..], refusal.num as u64);
+    let c = b + put_word(&mut out[b..], refusal.at);
+    let d = c + put_meaning(&mut out[c..], refusal.num);
     d + put_doubt(&mut out[d..], front)
 }
 

@@ -7,8 +7,7 @@ use lib.Dec.{eqb}
 use lib.ListN.{getD}
 use borrow.Author.Tests.{eqb-true}
 use Rattle.file_walk.specs.Walk.{endMarker}
-use Rattle.file_models.specs.Lists.{all}
-use Rattle.file_models.proofs.ListLaws.{found-passes}
+use Rattle.file_models.proofs.ListLaws.{all, found-passes}
 use Rattle.file_rules.specs.Sound.{every}
 use Rattle.file_rules.proofs.SoundRows.{said}
 use Rattle.file_order.specs.declared.setup.Setup.{Setup}

@@ -2,7 +2,7 @@
 use mathlib.Core.Bool.{Bool, true, false, cond, _||_}
 use mathlib.Core.List.{List}
 use mathlib.Core.Logic.{_⊎_, inl, inr}
-use mathlib.Core.Path.{_≡_, refl, ap}
+use mathlib.Core.Path.{_≡_, refl, sym, ap, _∙_}
 use Prim.Native.Nat.{ℕ, zero, suc, _/_, _≤_, _<_}
 use native.Mathlib.Omega.{arith}
 use lib.Dec.{ltb, eqb}
@@ -11,10 +11,11 @@ use borrow.Author.Tests.{ltb-false, eqb-true, eqb-false, le-ltb, ne-eqb}
 use Rattle.words.specs.Words.{low, high, longAt}
 use Rattle.words.proofs.Choice.{cond-second, or-neither}
 use Rattle.words.proofs.WordLaws.{Below}
-use Rattle.file_walk.specs.Walk.{Front, broken, ended, cut, endMarker, longForm, fitted, fronted, frontOf, rawOf}
+use Rattle.file_refusal.specs.Refusal.{isOfFile}
+use Rattle.file_walk.specs.Walk.{Front, refused, ended, cut, endMarker, longForm, fitted, fronted, frontOf, rawOf}
 
 abbrev kind : Front → ℕ
-kind (broken num) = 0
+kind (refused num) = 0
 kind ended = 1
 kind (cut k) = 2
 
@@ -32,7 +33,7 @@ pub record Cuts (w v n k : ℕ) : Type 0 where
 
 -- what `fronted` says after the test for the end marker, where t says whether the block has its length in word 1
 abbrev sized : Bool → ℕ → ℕ → ℕ → Front
-sized t w v n = cond t (cond (ltb n 2) (broken 2) (cond (ltb v 2) (broken 3) (fitted n v))) (fitted n (high w))
+sized t w v n = cond t (cond (ltb n 2) (refused 2) (cond (ltb v 2) (refused 3) (fitted n v))) (fitted n (high w))
 
 fitted-cuts : (n l k : ℕ) → fitted n l ≡ cut k → (l ≤ n) × (k ≡ l)
 fitted-cuts n l k e =
@@ -123,3 +124,28 @@ raw-below b s = go (eqb (low (getD b 0 0)) 0x0F)
     go : (t : Bool) → cond t (longAt b 6 / 2) 0 < 2147483648
     go true = omega (arith, s 6, s 7)
     go false = omega arith
+
+-- ---- a refusal
+
+abbrev fileNumber : Front → Bool
+fileNumber (refused num) = isOfFile num
+fileNumber ended = true
+fileNumber (cut k) = true
+
+-- its number is one of a file
+pub front-refused : (ws : List ℕ) (num : ℕ) → frontOf ws ≡ refused num → isOfFile num ≡ true
+unfolding frontOf fronted isOfFile
+front-refused ws num e =
+    ap fileNumber (sym e)
+    ∙ go (eqb (length ws) 0) (eqb (getD ws 0 0) endMarker) (longForm (getD ws 0 0)) (ltb (length ws) 2) (ltb (getD ws 1 0) 2) (ltb (length ws) (getD ws 1 0)) (ltb (length ws) (high (getD ws 0 0)))
+  where
+    go : (t u v w x y z : Bool)
+        → fileNumber (cond t (refused 2) (cond u ended (cond v (cond w (refused 2) (cond x (refused 3) (cond y (refused 2) (cut (getD ws 1 0))))) (cond z (refused 2) (cut (high (getD ws 0 0))))))) ≡ true
+    go true u v w x y z = refl
+    go false true v w x y z = refl
+    go false false true true x y z = refl
+    go false false true false true y z = refl
+    go false false true false false true z = refl
+    go false false true false false false z = refl
+    go false false false w x y true = refl
+    go false false false w x y false = refl

@@ -8,15 +8,16 @@ use lib.Dec.{ltb, eqb}
 use lib.ListN.{length, getD, take, drop, length-append, take-append-drop, List·getD-append}
 use lib.Seq.{take-append-seam, drop-append-seam, drop-append-add, drop-drop, getD-take, length-take-le}
 use borrow.Author.Tests.{ltb-false, eqb-true, le-ltb}
-use Rattle.file_walk.specs.Walk.{Front, broken, ended, cut, endMarker, fronted, frontOf, rawOf, Walk, over, block, walk, Part, partsOf, laidOut, Whole, Wholes}
+use Rattle.file_refusal.specs.Refusal.{refusal}
+use Rattle.file_walk.specs.Walk.{Front, refused, ended, cut, endMarker, fronted, frontOf, rawOf, Walk, over, block, walk, Part, partsOf, laidOut, Whole, Wholes}
 use Rattle.file_walk.specs.declared.Stop.the-variants.{End, Refused}
 use Rattle.file_walk.proofs.Fronts.{front-cuts, front-ended, front-same}
-use Rattle.file_walk.proofs.Steps.{walk-broken, walk-ended, walk-cut}
+use Rattle.file_walk.proofs.Steps.{walk-refused, walk-ended, walk-cut}
 
 -- the walk comes to the end marker, and no word is after it
 unfoldable pub closes : Walk → Bool
 closes (over (End at left)) = eqb left 0
-closes (over (Refused num at)) = false
+closes (over (Refused r)) = false
 closes (block at b raw w) = closes w
 
 -- a part and what is after it, walked
@@ -80,8 +81,8 @@ cut-joins m at ws k f ih e =
     onward : Walk
     onward = walk m (at + (k + raw)) (drop (k + raw) ws)
 
-    go : (t : Bool) → ltb (length (drop k ws)) raw ≡ t → closes (cond t (over (Refused 2 at)) onward) ≡ true
-        → Joins ws (block at (take k ws) (take raw (drop k ws)) (cond t (over (Refused 2 at)) onward))
+    go : (t : Bool) → ltb (length (drop k ws)) raw ≡ t → closes (cond t (over (Refused (refusal 2 at))) onward) ≡ true
+        → Joins ws (block at (take k ws) (take raw (drop k ws)) (cond t (over (Refused (refusal 2 at))) onward))
     go true q h = absurd (false≢true h)
     go false q h =
         let i = ih _ _ h in
@@ -93,7 +94,7 @@ laid-out-walk zero at ws e = absurd (false≢true e)
 laid-out-walk (suc m) at ws e = go (frontOf ws) refl (laid-out-walk m)
   where
     go : (f : Front) → frontOf ws ≡ f → ((at : ℕ) (ws : List ℕ) → closes (walk m at ws) ≡ true → Joins ws (walk m at ws)) → Joins ws (walk (suc m) at ws)
-    go (broken num) f ih = absurd (false≢true (sym (ap closes (walk-broken m at ws num f)) ∙ e))
+    go (refused num) f ih = absurd (false≢true (sym (ap closes (walk-refused m at ws num f)) ∙ e))
     go ended f ih =
         let q = walk-ended m at ws f in
         let n : length ws - 1 ≡ 0 = eqb-true _ _ (sym (ap closes q) ∙ e) in

@@ -11,7 +11,8 @@ use lib.Seq.{drop-drop, getD-take}
 use borrow.Author.Tests.{ltb-true, ltb-false, lt-ltb, le-ltb}
 use Rattle.words.specs.Words.{low, high}
 use Rattle.words.proofs.Choice.{cond-second}
-use Rattle.file_walk.specs.Walk.{Front, broken, ended, cut, frontOf, rawOf, Walk, over, block, walk, walked, stepped, stepAt}
+use Rattle.file_refusal.specs.Refusal.{refusal}
+use Rattle.file_walk.specs.Walk.{Front, refused, ended, cut, frontOf, rawOf, Walk, over, block, walk, walked, stepped, stepAt}
 use Rattle.file_walk.specs.declared.Cursor.{Cursor}
 use Rattle.file_walk.specs.declared.Stop.{Stop}
 use Rattle.file_walk.specs.declared.Stop.the-variants.{End, Refused}
@@ -22,9 +23,9 @@ use Rattle.file_walk.proofs.Fronts.{front-cuts, front-ended}
 -- ---- the walk, by what stands at its front
 
 module _ (m at : ℕ) (ws : List ℕ) where
-  pub walk-broken : (num : ℕ) → frontOf ws ≡ broken num → walk (suc m) at ws ≡ over (Refused num at)
+  pub walk-refused : (num : ℕ) → frontOf ws ≡ refused num → walk (suc m) at ws ≡ over (Refused (refusal num at))
   unfolding walk
-  walk-broken num e = rw (e, walk)
+  walk-refused num e = rw (e, walk)
 
   pub walk-ended : frontOf ws ≡ ended → walk (suc m) at ws ≡ over (End at (length ws - 1))
   unfolding walk
@@ -33,14 +34,14 @@ module _ (m at : ℕ) (ws : List ℕ) where
   pub walk-cut : (k : ℕ) → frontOf ws ≡ cut k
       → walk (suc m) at ws
       ≡ block at (take k ws) (take (rawOf (take k ws)) (drop k ws))
-      (cond (ltb (length (drop k ws)) (rawOf (take k ws))) (over (Refused 2 at)) (walk m (at + (k + rawOf (take k ws))) (drop (k + rawOf (take k ws)) ws)))
+      (cond (ltb (length (drop k ws)) (rawOf (take k ws))) (over (Refused (refusal 2 at))) (walk m (at + (k + rawOf (take k ws))) (drop (k + rawOf (take k ws)) ws)))
   unfolding walk
   walk-cut k e = rw (e, walk)
 
 -- ---- the walk from a cursor on
 
 unfoldable pub walkFrom : ℕ → List ℕ → Cursor → Walk
-walkFrom m ws c = cond (ltb (length ws) (c .at)) (over (Refused 2 (c .last))) (walk m (c .at) (drop (c .at) ws))
+walkFrom m ws c = cond (ltb (length ws) (c .at)) (over (Refused (refusal 2 (c .last)))) (walk m (c .at) (drop (c .at) ws))
 
 pub walk-start : (ws : List ℕ) → walkFrom (suc (length ws)) ws (record { at = 0; last = 0 }) ≡ walked ws
 unfolding walkFrom walked
@@ -48,22 +49,22 @@ walk-start ws = rw (le-ltb (length ws) 0 (omega arith))
 
 pub walk-over : (m : ℕ) (ws : List ℕ) (c : Cursor) (s : Stop) → stepAt ws c ≡ Over s → walkFrom (suc m) ws c ≡ over s
 unfolding walkFrom stepAt stepped
-walk-over m ws c s e = past (ltb (length ws) (c .at)) e
+walk-over m ws c s e = past _ (ltb (length ws) (c .at)) e
   where
     vs : List ℕ
     vs = drop (c .at) ws
 
     here : (f : Front) → frontOf vs ≡ f → stepped (c .at) vs f ≡ Over s → walk (suc m) (c .at) vs ≡ over s
-    here (broken num) q h = walk-broken m (c .at) vs num q ∙ cc
+    here (refused num) q h = walk-refused m (c .at) vs num q ∙ cc
     here ended q h = walk-ended m (c .at) vs q ∙ cc
     here (cut k) q h = cc
 
-    past : (t : Bool) → cond t (Over (Refused 2 (c .last))) (stepped (c .at) vs (frontOf vs)) ≡ Over s → cond t (over (Refused 2 (c .last))) (walk (suc m) (c .at) vs) ≡ over s
-    past true h = cc
-    past false h = here (frontOf vs) refl h
+    past : (o : Stop) (t : Bool) → cond t (Over o) (stepped (c .at) vs (frontOf vs)) ≡ Over s → cond t (over o) (walk (suc m) (c .at) vs) ≡ over s
+    past o true h = cc
+    past o false h = here (frontOf vs) refl h
 
 -- a step that is no refusal of raw words, by what stands at the cursor
-step-front : (ws : List ℕ) (c : Cursor) (s : Step) → stepAt ws c ≡ s → (Over (Refused 2 (c .last)) ≡ s → ⊥)
+step-front : (ws : List ℕ) (c : Cursor) (s : Step) → stepAt ws c ≡ s → (Over (Refused (refusal 2 (c .last))) ≡ s → ⊥)
     → (c .at ≤ length ws) × (stepped (c .at) (drop (c .at) ws) (frontOf (drop (c .at) ws)) ≡ s)
 unfolding stepAt
 step-front ws c s e never = let p = cond-second (ltb (length ws) (c .at)) e never in (ltb-false _ _ (p .0), p .1)
@@ -90,7 +91,7 @@ step-block ws c id nn start len next e =
     vs = drop (c .at) ws
 
     go : (f : Front) → frontOf vs ≡ f → c .at ≤ length ws → stepped (c .at) vs f ≡ Block id nn start len next → Stepped ws c id nn start len next
-    go (broken num) q h g = let z : _≡_ {A = ℕ} 0 1 = cc in absurd (omega arith)
+    go (refused num) q h g = let z : _≡_ {A = ℕ} 0 1 = cc in absurd (omega arith)
     go ended q h g = let z : _≡_ {A = ℕ} 0 1 = cc in absurd (omega arith)
     go (cut k) q h g =
         let a : c .at ≡ start = cc in
@@ -144,7 +145,7 @@ end-bounds ws c p left e =
     vs = drop (c .at) ws
 
     go : (f : Front) → frontOf vs ≡ f → c .at ≤ length ws → stepped (c .at) vs f ≡ Over (End p left) → (p ≡ c .at) × (p + 1 + left ≡ length ws)
-    go (broken num) q h g = let z : _≡_ {A = ℕ} 0 1 = cc in absurd (omega arith)
+    go (refused num) q h g = let z : _≡_ {A = ℕ} 0 1 = cc in absurd (omega arith)
     go ended q h g =
         let a : p ≡ c .at = cc in
         let b : length vs - 1 ≡ left = cc in

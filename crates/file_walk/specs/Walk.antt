@@ -6,6 +6,7 @@ use Prim.Native.Nat.{ℕ, zero, suc, _+_, _-_, _/_}
 use lib.Dec.{eqb, ltb}
 use lib.ListN.{length, getD, take, drop}
 use Rattle.words.specs.Words.{low, high, longAt}
+use Rattle.file_refusal.specs.Refusal.{refusal}
 use Rattle.file_walk.specs.declared.Cursor.{Cursor}
 use Rattle.file_walk.specs.declared.Stop.{Stop}
 use Rattle.file_walk.specs.declared.Stop.the-variants.{End, Refused}
@@ -18,7 +19,7 @@ endMarker = 0xFFFF
 
 -- what stands at the front of some words: a refusal, the end marker, or a block of n words
 pub data Front : Type 0 where
-  broken : ℕ → Front
+  refused : ℕ → Front
   ended : Front
   cut : ℕ → Front
 
@@ -28,14 +29,14 @@ longForm w = eqb (high w) 0 || (eqb (low w) 0x0B || eqb (low w) 0x14)
 
 -- a block of k words, where n are left: one that passes the last word is 2
 abbrev pub fitted : ℕ → ℕ → Front
-fitted n k = cond (ltb n k) (broken 2) (cut k)
+fitted n k = cond (ltb n k) (refused 2) (cut k)
 
 -- by the first two words, w and v, and how many words there are: "length word present (2), long form under 2 (3), block fits (2)"
 unfoldable pub fronted : ℕ → ℕ → ℕ → Front
 fronted w v n =
-    cond (eqb n 0) (broken 2)
+    cond (eqb n 0) (refused 2)
     (cond (eqb w endMarker) ended
-    (cond (longForm w) (cond (ltb n 2) (broken 2) (cond (ltb v 2) (broken 3) (fitted n v)))
+    (cond (longForm w) (cond (ltb n 2) (refused 2) (cond (ltb v 2) (refused 3) (fitted n v)))
     (fitted n (high w))))
 
 unfoldable pub frontOf : List ℕ → Front
@@ -53,14 +54,14 @@ pub data Walk : Type 0 where
 -- the walk over the words ws, which start at word `at` of the file. Raw words that pass the last word are 2 at the start of
 -- their block, once the block itself is through. A block has a word at least: fuel for each word and one more is enough
 unfoldable pub walk : ℕ → ℕ → List ℕ → Walk
-walk zero at ws = over (Refused 2 at)
+walk zero at ws = over (Refused (refusal 2 at))
 walk (suc m) at ws =
     elim (frontOf ws) [
-      | broken num ↦ over (Refused num at)
+      | refused num ↦ over (Refused (refusal num at))
       | ended ↦ over (End at (length ws - 1))
       | cut k ↦
           block at (take k ws) (take (rawOf (take k ws)) (drop k ws))
-          (cond (ltb (length (drop k ws)) (rawOf (take k ws))) (over (Refused 2 at)) (walk m (at + (k + rawOf (take k ws))) (drop (k + rawOf (take k ws)) ws)))
+          (cond (ltb (length (drop k ws)) (rawOf (take k ws))) (over (Refused (refusal 2 at))) (walk m (at + (k + rawOf (take k ws))) (drop (k + rawOf (take k ws)) ws)))
     ]
 
 unfoldable pub walked : List ℕ → Walk
@@ -68,7 +69,7 @@ walked ws = walk (suc (length ws)) 0 ws
 
 -- one step of the walk, over words ws that start at word `at`
 unfoldable pub stepped : ℕ → List ℕ → Front → Step
-stepped at ws (broken num) = Over (Refused num at)
+stepped at ws (refused num) = Over (Refused (refusal num at))
 stepped at ws ended = Over (End at (length ws - 1))
 stepped at ws (cut k) =
     Block (low (getD ws 0 0)) (high (getD ws 0 0)) at k (record { at = at + (k + rawOf (take k ws)); last = at })
@@ -76,7 +77,7 @@ stepped at ws (cut k) =
 -- a cursor past the last word was led there by the raw words of the block before it
 unfoldable pub stepAt : List ℕ → Cursor → Step
 stepAt ws c =
-    cond (ltb (length ws) (c .at)) (Over (Refused 2 (c .last)))
+    cond (ltb (length ws) (c .at)) (Over (Refused (refusal 2 (c .last))))
     (stepped (c .at) (drop (c .at) ws) (frontOf (drop (c .at) ws)))
 
 -- a block and the raw words after it

@@ -1,4 +1,5 @@
 // The walk over the blocks of a meter file: where each starts, how long it is, and where the next one starts.
+use file_refusal::Refusal;
 use words::count;
 use words::front;
 use words::long;
@@ -16,10 +17,10 @@ pub struct Cursor {
     pub last: usize,
 }
 
-// Why the walk is over: the end marker, with `left` words after it, or a refusal by its number.
+// Why the walk is over: the end marker, with `left` words after it, or a refusal.
 pub enum Stop {
     End { at: usize, left: usize },
-    Refused { num: u8, at: usize },
+    Refused(Refusal),
 }
 
 // A step of the walk.
@@ -75,7 +76,7 @@ impl Cursor {
         let at = self.at;
         let length = len as usize;
         if count(left) < length {
-            return Step::Over(Stop::Refused { num: 2, at });
+            return Step::Over(Stop::Refused(Refusal { num: 2, at }));
         }
         let header = word(left, 0);
         let raw = raw_words(front(left, length));
@@ -97,15 +98,15 @@ impl Cursor {
     {
         let at = self.at;
         if count(file) < at {
-            return Step::Over(Stop::Refused {
+            return Step::Over(Stop::Refused(Refusal {
                 num: 2,
                 at: self.last,
-            });
+            }));
         }
         let left = rest(file, at);
         let n = count(left);
         if n == 0 {
-            return Step::Over(Stop::Refused { num: 2, at });
+            return Step::Over(Stop::Refused(Refusal { num: 2, at }));
         }
         let header = word(left, 0);
         if header == 0xFFFF {
@@ -115,11 +116,11 @@ impl Cursor {
             return self.cut(left, header / 256);
         }
         if n < 2 {
-            return Step::Over(Stop::Refused { num: 2, at });
+            return Step::Over(Stop::Refused(Refusal { num: 2, at }));
         }
         let length = word(left, 1);
         if length < 2 {
-            return Step::Over(Stop::Refused { num: 3, at });
+            return Step::Over(Stop::Refused(Refusal { num: 3, at }));
         }
         self.cut(left, length)
     }

@@ -17,7 +17,7 @@ use Rattle.file_rules.specs.declared.More.the-variants.{Nothing, Where, Counts}
 use Rattle.file_rules.specs.declared.Rule.{Rule}
 use Rattle.file_rules.specs.declared.Row.{Row}
 use Rattle.file_rules.specs.declared.Tested.{Tested}
-use Rattle.file_rules.specs.declared.Tested.the-variants.{Good, Bad}
+use Rattle.file_rules.specs.declared.Tested.the-variants.{Good}
 use Rattle.file_rules.specs.Block.{allows, inForce, moreOf, leastOf, obeyed, ruled, wholeRecords, buffered}
 use Rattle.file_rules.specs.Sound.{among, looks, counts, asks, inside}
 
@@ -76,14 +76,11 @@ module _ {n : ℕ} {b b′ : List ℕ} (a : Agree n b b′) where
 
   pub buffered-agree : (r : Row) → (r .logger ≡ true → 7 < n) → buffered r b′ ≡ buffered r b
   unfolding buffered
-  buffered-agree r h = go (r .logger) refl
+  buffered-agree r h = go _ (r .logger) refl
     where
-      tested : List ℕ → Tested
-      tested x = cond (wholeRecords (r .width) (longAt x 6)) Good (Bad 8 6)
-
-      go : (t : Bool) → r .logger ≡ t → cond t (tested b′) Good ≡ cond t (tested b) Good
-      go true q = rw (long-agree (h q))
-      go false q = refl
+      go : (x : Tested) (t : Bool) → r .logger ≡ t → cond t (cond (wholeRecords (r .width) (longAt b′ 6)) Good x) Good ≡ cond t (cond (wholeRecords (r .width) (longAt b 6)) Good x) Good
+      go x true q = rw (long-agree (h q))
+      go x false q = refl
 
   pub raw-agree : low (getD b′ 0 0) ≡ low (getD b 0 0) → (low (getD b 0 0) ≡ 0x0F → 7 < n) → rawOf b′ ≡ rawOf b
   unfolding rawOf

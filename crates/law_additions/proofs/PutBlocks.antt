@@ -9,7 +9,7 @@ use lib.ListN.{length, getD}
 use borrow.Author.Tests.{not-true, eqb-true, eqb-false, ltb-true, ne-eqb, le-ltb}
 use Rattle.words.specs.Words.{low, high}
 use Rattle.words.proofs.Choice.{and-both}
-use Rattle.file_walk.specs.Walk.{broken, cut, endMarker, longForm, fronted, frontOf, rawOf, Whole}
+use Rattle.file_walk.specs.Walk.{refused, cut, endMarker, longForm, fronted, frontOf, rawOf, Whole}
 use Rattle.file_tables.specs.Table.{rowOf, kindOf}
 use Rattle.law_additions.specs.Additions.{countIn, mayBePut}
 
@@ -44,8 +44,8 @@ unfolding frontOf fronted countIn
 put-front b p = simp (ne-eqb (length b) 0 (λ z. omega (arith, p .some)), ne-eqb (getD b 0 0) endMarker (p .no-end)) (go (longForm (getD b 0 0)) (p .counts))
   where
     go : (t : Bool) → cond t (getD b 1 0) (high (getD b 0 0)) ≡ length b
-        → cond t (cond (ltb (length b) 2) (broken 2) (cond (ltb (getD b 1 0) 2) (broken 3) (cond (ltb (length b) (getD b 1 0)) (broken 2) (cut (getD b 1 0)))))
-        (cond (ltb (length b) (high (getD b 0 0))) (broken 2) (cut (high (getD b 0 0))))
+        → cond t (cond (ltb (length b) 2) (refused 2) (cond (ltb (getD b 1 0) 2) (refused 3) (cond (ltb (length b) (getD b 1 0)) (refused 2) (cut (getD b 1 0)))))
+        (cond (ltb (length b) (high (getD b 0 0))) (refused 2) (cut (high (getD b 0 0))))
         ≡ cut (length b)
     go true e = simp (e, le-ltb (length b) 2 (omega (arith, long-two b (p .some) e)), le-ltb (length b) (length b) (omega arith))
     go false e = simp (e, le-ltb (length b) (length b) (omega arith))

@@ -5,7 +5,7 @@ use Prim.Native.Nat.{ℕ}
 use native.Mathlib.Omega.{arith}
 use lib.ListN.{length, drop}
 use Rattle.call_check.specs.declared.judge.Judged.{Judged}
-use Rattle.call_check.specs.declared.judge.Judged.the-variants.{Passed, Denied}
+use Rattle.call_check.specs.declared.judge.Judged.the-variants.{Passed, Refused}
 use Rattle.call_check.specs.declared.check.Answer.the-variants.{Accepted}
 use Rattle.call_check.specs.Judge.{surveyed}
 use Rattle.call_check.specs.Check.{answered, verdict}
@@ -47,7 +47,7 @@ accepted-passes f a = go (surveyed f) refl (a .answer)
   where
     go : (j : Judged) → surveyed f ≡ j → answered j ≡ Accepted (a .found) → IsAccepted f
     go (Passed s) e h = record { state = s; passed = e }
-    go (Denied num at) e h = let z : _≡_ {A = ℕ} 0 1 = cc in absurd (omega arith)
+    go (Refused x) e h = let z : _≡_ {A = ℕ} 0 1 = cc in absurd (omega arith)
 
 module _ (f g : List ℕ) (accepted : Accepts f) (added : Added f g) where
   abbrev same : SameAnswers f g

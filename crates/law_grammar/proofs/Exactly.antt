@@ -15,7 +15,7 @@ use Rattle.file_order.specs.Setup.{noSetup}
 use Rattle.file_order.specs.Order.{only}
 use Rattle.call_check.specs.declared.check.Answer.the-variants.{Accepted}
 use Rattle.call_check.specs.declared.judge.Judged.{Judged}
-use Rattle.call_check.specs.declared.judge.Judged.the-variants.{Passed, Denied}
+use Rattle.call_check.specs.declared.judge.Judged.the-variants.{Passed, Refused}
 use Rattle.call_check.specs.Judge.{firstState, misfit, surveyed}
 use Rattle.call_check.specs.Check.{outlineOf, answered, verdict}
 use Rattle.law_grammar.specs.Grammar.{Grammatical, Accepts}
@@ -29,7 +29,7 @@ accepts-found file e = go (surveyed file) refl e
   where
     go : (j : Judged) → surveyed file ≡ j → accepts j ≡ true → Accepts file
     go (Passed s) h t = record { found = outlineOf s; answer = ap answered h }
-    go (Denied num at) h t = absurd (false≢true t)
+    go (Refused x) h t = absurd (false≢true t)
 
 pub found-accepts : (file : List ℕ) → Accepts file → accepts (surveyed file) ≡ true
 unfolding verdict answered accepts
@@ -37,17 +37,17 @@ found-accepts file a = go (surveyed file) (a .answer)
   where
     go : (j : Judged) → answered j ≡ Accepted (a .found) → accepts j ≡ true
     go (Passed s) h = refl
-    go (Denied num at) h = let z : _≡_ {A = ℕ} 0 1 = cc in absurd (omega arith)
+    go (Refused x) h = let z : _≡_ {A = ℕ} 0 1 = cc in absurd (omega arith)
 
 -- the acceptance of a file, without positions
 pub surveyed-takes : (file : List ℕ)
     → accepts (surveyed file) ≡ (not (misfit file) && (closes (walked (wordsOf file)) && takes (only 0x01) noSetup (partsOf (walked (wordsOf file)))))
 unfolding surveyed accepts
-surveyed-takes file = go (misfit file) _ (judge-takes (walked (wordsOf file)) firstState)
+surveyed-takes file = go (misfit file) _ _ refl (judge-takes (walked (wordsOf file)) firstState)
   where
-    go : (t : Bool) (j : Judged) {x : Bool} → accepts j ≡ x → accepts (cond t (Denied 1 0) j) ≡ (not t && x)
-    go true j e = refl
-    go false j e = e
+    go : (t : Bool) (i j : Judged) {x : Bool} → accepts i ≡ false → accepts j ≡ x → accepts (cond t i j) ≡ (not t && x)
+    go true i j f e = f
+    go false i j f e = e
 
 -- the parts that a file is laid out of are those that the walk finds: there is one reading of a file at most
 pub walked-parts : (ws : List ℕ) (ps : List Part) → Wholes ps → ws ≡ laidOut ps → (partsOf (walked ws) ≡ ps) × (closes (walked ws) ≡ true)

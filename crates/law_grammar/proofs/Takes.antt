@@ -3,17 +3,16 @@ use mathlib.Core.Bool.{Bool, true, false, cond, _&&_, _||_, false≢true, and-fa
 use mathlib.Core.List.{List, [], _∷_}
 use mathlib.Core.Path.{_≡_, refl, sym, ap, _∙_}
 use Prim.Native.Nat.{ℕ, _+_}
-use native.Mathlib.Omega.{arith}
 use lib.Dec.{eqb}
 use lib.ListN.{getD}
 use borrow.Author.Tests.{eq-eqb}
 use Rattle.words.specs.Words.{low}
-use Rattle.file_walk.specs.declared.Stop.the-variants.{End, Refused}
+use Rattle.file_refusal.specs.Refusal.{refusal}
+use Rattle.file_walk.specs.declared.Stop.{Stop}
 use Rattle.file_walk.specs.Walk.{Walk, over, block, endMarker, Part, partsOf}
 use Rattle.file_walk.proofs.Segments.{closes}
 use Rattle.file_rules.specs.declared.Row.{Row}
 use Rattle.file_rules.specs.declared.Tested.{Tested}
-use Rattle.file_rules.specs.declared.Tested.the-variants.{Good, Bad}
 use Rattle.file_rules.specs.Block.{kept, offsetBy}
 use Rattle.file_rules.specs.Slim.{slimBy, wordIn, subWordIn}
 use Rattle.words.proofs.Choice.{and-both}
@@ -26,8 +25,9 @@ use Rattle.file_order.proofs.KnownLaws.{row-listed}
 use Rattle.file_order.proofs.OrderLaws.{only-due, only-passes}
 use Rattle.call_check.specs.declared.judge.State.{State}
 use Rattle.call_check.specs.declared.judge.Judged.{Judged}
-use Rattle.call_check.specs.declared.judge.Judged.the-variants.{Passed, Denied}
+use Rattle.call_check.specs.declared.judge.Judged.the-variants.{Passed}
 use Rattle.call_check.specs.Judge.{skipped, enteredBy, entered, testedBy, judgedBy, seenBy, seenIn, closed, judge}
+use Rattle.call_check.proofs.Numbered.{key-id}
 use Rattle.call_check.proofs.Turns.{judge-pass, judge-deny}
 use Rattle.law_grammar.specs.Grammar.{knownAfter, Listed}
 
@@ -36,8 +36,8 @@ abbrev pub wordOf : Part → ℕ
 wordOf p = getD (p .words) 0 0
 
 unfoldable pub good : Tested → Bool
-good Good = true
-good (Bad num at) = false
+good Tested.Good = true
+good (Tested.Refused x) = false
 
 -- by what is due and what is known: a listed block is the one that is due, and good; another is passed over; the end marker is due at the end
 unfoldable pub takes : Due → Setup → List Part → Bool
@@ -51,7 +51,7 @@ takes d s (p ∷ ps) =
 
 unfoldable pub accepts : Judged → Bool
 accepts (Passed s) = true
-accepts (Denied num at) = false
+accepts (Judged.Refused x) = false
 
 -- one block; x and y say what follows where it is listed and was taken, and where it was passed over
 judge-block : (st : State) (at : ℕ) (b raw : List ℕ) (w : Walk) (x y : Bool)
@@ -68,21 +68,21 @@ judge-block st at b raw w x y e f =
 
     go : (t u : Bool) (k : Tested) → r .listed ≡ t → isDue (st .due) (keyOf (getD b 0 0)) ≡ u → kept r b ≡ k
         → accepts (judge st (block at b raw w)) ≡ (closes w && cond t (u && (good k && x)) y)
-    go true true Good l i g = rw (judge-pass st at b raw w (enteredBy st at b) (simp (l, i, g))) e
-    go true true (Bad num p) l i g = rw (judge-deny st at b raw w num (at + p) (simp (l, i, g)), and-false (closes w))
-    go true false k l i g = rw (judge-deny st at b raw w 4 (at + 0) (simp (l, i)), and-false (closes w))
+    go true true Tested.Good l i g = rw (judge-pass st at b raw w (enteredBy st at b) (simp (l, i, g))) e
+    go true true (Tested.Refused z) l i g = rw (judge-deny st at b raw w {x = refusal (z .num) (at + z .at)} (simp (l, i, g)), and-false (closes w))
+    go true false k l i g = rw (judge-deny st at b raw w {x = refusal 4 (at + 0)} (simp (l, i)), and-false (closes w))
     go false u k l i g = rw (judge-pass st at b raw w (skipped st) (simp l)) f
 
 pub judge-takes : (w : Walk) (st : State) → accepts (judge st w) ≡ (closes w && takes (st .due) (st .setup) (partsOf w))
 unfolding judge closed closes partsOf takes accepts enteredBy entered skipped knownAfter learnt slimOf slimBy idIn wordIn subWordIn
-judge-takes (over (End at left)) st = go (isDue (st .due) endMarker) (eqb left 0)
+judge-takes (over (Stop.End at left)) st = go (isDue (st .due) endMarker) (eqb left 0)
   where
-    go : (t u : Bool) → accepts (cond t (cond u (Passed st) (Denied 9 (at + 1))) (Denied 4 at)) ≡ (u && t)
+    go : (t u : Bool) → accepts (cond t (cond u (Passed st) (Judged.Refused (refusal 9 (at + 1)))) (Judged.Refused (refusal 4 at))) ≡ (u && t)
     go true true = refl
     go true false = refl
     go false true = refl
     go false false = refl
-judge-takes (over (Refused num at)) st = refl
+judge-takes (over (Stop.Refused x)) st = refl
 judge-takes (block at b raw w) st = judge-block st at b raw w _ _ (judge-takes w (enteredBy st at b)) (judge-takes w (skipped st))
 
 -- ---- what is due
@@ -103,22 +103,13 @@ takes-either a b p q s (x ∷ xs) = go (kindOf (low (wordOf x)) .listed) (takes-
     go true ih = simp (or-self, and-or-distrib-right)
     go false ih = simp (p, q) ih
 
--- an id is not lost in a key
-key-low : (w : ℕ) → low (keyOf w) ≡ low w
-unfolding keyOf
-key-low w = go (eqb (low w) 0x0B)
-  where
-    go : (t : Bool) → low (cond t w (low w)) ≡ low w
-    go true = refl
-    go false = omega arith
-
 pub key-listed : (w : ℕ) {k : ℕ} → keyOf w ≡ k → kindOf (low w) .listed ≡ kindOf (low k) .listed
-key-listed w {k} e = ap (λ (i : ℕ). kindOf i .listed) {x = low w} {y = low k} (sym (key-low w) ∙ ap low e)
+key-listed w {k} e = ap (λ (i : ℕ). kindOf i .listed) {x = low w} {y = low k} (sym (key-id w) ∙ ap low e)
 
-pub good-is : (t : Tested) → good t ≡ true → t ≡ Good
+pub good-is : (t : Tested) → good t ≡ true → t ≡ Tested.Good
 unfolding good
-good-is Good e = refl
-good-is (Bad num at) e = absurd (false≢true e)
+good-is Tested.Good e = refl
+good-is (Tested.Refused x) e = absurd (false≢true e)
 
 module _ (k : ℕ) (s : Setup) (p : Part) (ps : List Part) where
   -- a listed block that is taken

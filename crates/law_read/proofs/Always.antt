@@ -7,10 +7,9 @@ use Prim.Native.Nat.{ℕ, zero, suc, _+_, _≤_}
 use native.Mathlib.Omega.{arith}
 use lib.ListN.{length, getD, take, drop, length-take, length-drop}
 use Rattle.words.specs.Words.{low, wordsOf}
-use Rattle.words.proofs.Choice.{cond-first, cond-second}
+use Rattle.words.proofs.Choice.{cond-second}
 use Rattle.file_walk.specs.declared.Cursor.{Cursor}
 use Rattle.file_walk.specs.declared.Stop.{Stop}
-use Rattle.file_walk.specs.declared.Stop.the-variants.{End, Refused}
 use Rattle.file_walk.specs.declared.Step.{Step}
 use Rattle.file_walk.specs.declared.Step.the-variants.{Block, Over}
 use Rattle.file_walk.specs.Walk.{endMarker, rawOf, stepAt, Part, partsOf}

@@ -5,17 +5,17 @@ use mathlib.Core.Path.{_≡_, sym, ap, _∙_}
 use Prim.Native.Nat.{ℕ}
 use lib.ListN.{replicate}
 use Rattle.paging.specs.declared.fit.Progress.{Progress}
+use Rattle.file_refusal.specs.declared.Refusal.{Refusal}
 use Rattle.call_check.specs.declared.check.Outline.{Outline}
 use Rattle.call_check.specs.declared.check.Answer.{Answer}
-use Rattle.call_check.specs.declared.check.Answer.the-variants.{Accepted, Refused}
-use Rattle.call_check.specs.Starts.{absent, startsIn}
+use Rattle.call_check.specs.Starts.{absent, placeCount, startsIn}
 use Rattle.call_check.specs.Check.{verdict, Checked}
 use Rattle.call_check.proofs.Answers.{checked-verdict}
 use Rattle.call_title.specs.declared.TitleAt.{TitleAt}
 use Rattle.call_title.specs.declared.TitleAt.the-variants.{Text, Label}
-use Rattle.call_sheet.specs.declared.Reply as Sheet
+use Rattle.call_sheet.specs.declared.Reply.{Reply as Sheet}
 use Rattle.call_sheet.specs.Reply.{Sheeted}
-use Rattle.call_slim.specs.declared.Reply as Slim
+use Rattle.call_slim.specs.declared.Reply.{Reply as Slim}
 use Rattle.call_slim.specs.Copy as SlimCall
 use Rattle.meter.specs.Exports.{checkReply, titleReply, sheetStruct, slimStruct, SheetGiven, SlimGiven}
 use Rattle.meter.proofs.FieldLaws.{answer-of-sheet, answer-of-slim}
@@ -24,13 +24,13 @@ use Rattle.meter.proofs.FieldLaws.{answer-of-sheet, answer-of-slim}
 
 module _ (file : List ℕ) {a : Answer} (h : Checked file a) where
   -- the outline of an accepted file
-  pub check-accepted : {r : Outline} {starts : List ℕ} → a ≡ Accepted r → starts ≡ startsIn (r .starts)
+  pub check-accepted : {r : Outline} {starts : List ℕ} → a ≡ Answer.Accepted r → starts ≡ startsIn (r .starts)
       → record { refusal = 0; function = r .function; starts = starts; at = 0 } ≡ checkReply (verdict file)
   unfolding checkReply
   check-accepted e l = rw l (ap checkReply (sym e ∙ checked-verdict file a h))
 
   -- a refusal has no function and no starts
-  pub check-refused : {num at : ℕ} → a ≡ Refused num at → record { refusal = num; function = 0; starts = replicate 9 absent; at = at } ≡ checkReply (verdict file)
+  pub check-refused : {x : Refusal} → a ≡ Answer.Refused x → record { refusal = x .num; function = 0; starts = replicate placeCount absent; at = x .at } ≡ checkReply (verdict file)
   unfolding checkReply
   check-refused e = ap checkReply (sym e ∙ checked-verdict file a h)
 
@@ -49,28 +49,28 @@ module _ (n : ℕ) {a t : TitleAt} (h : a ≡ t) where
 
 -- ---- Sheet
 
-module _ {file label : List ℕ} {n : ℕ} {before after : List ℕ} {a : Sheet.Reply} (h : Sheeted file label n before after a) where
+module _ {file label : List ℕ} {n : ℕ} {before after : List ℕ} {a : Sheet} (h : Sheeted file label n before after a) where
   -- a success has no position
-  pub sheet-written : {p : Progress} → a ≡ Sheet.the-variants.Written p
+  pub sheet-written : {p : Progress} → a ≡ Sheet.Written p
       → SheetGiven file label n before after (record { refusal = 0; finished = p .finished; at = 0; lines = p .lines; bytes = p .bytes })
   unfolding sheetStruct
   sheet-written e = record { answer-is = ap sheetStruct (sym e ∙ answer-of-sheet h); output-is = h .output-is }
 
   -- a refusal has no lines and no bytes, and is not the end
-  pub sheet-refused : {num at : ℕ} → a ≡ Sheet.the-variants.Refused num at
-      → SheetGiven file label n before after (record { refusal = num; finished = false; at = at; lines = 0; bytes = 0 })
+  pub sheet-refused : {x : Refusal} → a ≡ Sheet.Refused x
+      → SheetGiven file label n before after (record { refusal = x .num; finished = false; at = x .at; lines = 0; bytes = 0 })
   unfolding sheetStruct
   sheet-refused e = record { answer-is = ap sheetStruct (sym e ∙ answer-of-sheet h); output-is = h .output-is }
 
 -- ---- Slim
 
-module _ {file before after : List ℕ} {a : Slim.Reply} (h : SlimCall.Slimmed file before after a) where
+module _ {file before after : List ℕ} {a : Slim} (h : SlimCall.Slimmed file before after a) where
   -- a success has no position
-  pub slim-written : {m : ℕ} → a ≡ Slim.the-variants.Written m → SlimGiven file before after (record { refusal = 0; at = 0; bytes = m })
+  pub slim-written : {m : ℕ} → a ≡ Slim.Written m → SlimGiven file before after (record { refusal = 0; at = 0; bytes = m })
   unfolding slimStruct
   slim-written e = record { answer-is = ap slimStruct (sym e ∙ answer-of-slim h); output-is = h .output-is }
 
   -- a refusal has no bytes
-  pub slim-refused : {num at : ℕ} → a ≡ Slim.the-variants.Refused num at → SlimGiven file before after (record { refusal = num; at = at; bytes = 0 })
+  pub slim-refused : {x : Refusal} → a ≡ Slim.Refused x → SlimGiven file before after (record { refusal = x .num; at = x .at; bytes = 0 })
   unfolding slimStruct
   slim-refused e = record { answer-is = ap slimStruct (sym e ∙ answer-of-slim h); output-is = h .output-is }

@@ -5,15 +5,14 @@ use mathlib.Core.List.{List}
 use mathlib.Core.Path.{_≡_}
 use Prim.Native.Nat.{ℕ}
 use lib.ListN.{length, drop, replicate}
-use Rattle.call_check.specs.Starts.{absent, startsIn}
+use Rattle.call_check.specs.Starts.{absent, placeCount, startsIn}
 use Rattle.call_check.specs.declared.check.Answer.{Answer}
-use Rattle.call_check.specs.declared.check.Answer.the-variants.{Accepted, Refused}
 use Rattle.call_title.specs.declared.TitleAt.{TitleAt}
 use Rattle.call_title.specs.declared.TitleAt.the-variants.{Text, Label}
 use Rattle.sheet_page.specs.Sheet.{sheetTexts}
-use Rattle.call_sheet.specs.declared.Reply as Sheet
+use Rattle.call_sheet.specs.declared.Reply.{Reply as Sheet}
 use Rattle.call_sheet.specs.Reply as SheetCall
-use Rattle.call_slim.specs.declared.Reply as Slim
+use Rattle.call_slim.specs.declared.Reply.{Reply as Slim}
 use Rattle.call_slim.specs.Copy as SlimCall
 use Rattle.meter.specs.declared.CheckReply.{CheckReply}
 use Rattle.meter.specs.declared.TitleReply.{TitleReply}
@@ -21,27 +20,27 @@ use Rattle.meter.specs.declared.SheetReply.{SheetReply}
 use Rattle.meter.specs.declared.SlimReply.{SlimReply}
 
 unfoldable pub checkReply : Answer → CheckReply
-checkReply (Accepted r) =
+checkReply (Answer.Accepted r) =
     record {
       refusal = 0;
       function = r .function;
       starts = startsIn (r .starts);
       at = 0;
     }
-checkReply (Refused num at) = record { refusal = num; function = 0; starts = replicate 9 absent; at = at }
+checkReply (Answer.Refused r) = record { refusal = r .num; function = 0; starts = replicate placeCount absent; at = r .at }
 
 -- Title for a label of n bytes: "the whole label" is its bytes from byte 0 on
 unfoldable pub titleReply : ℕ → TitleAt → TitleReply
 titleReply n (Text at len) = record { «from_file» = true; at = at; len = len }
 titleReply n Label = record { «from_file» = false; at = 0; len = n }
 
-unfoldable pub sheetStruct : Sheet.Reply → SheetReply
-sheetStruct (Sheet.the-variants.Written p) = record { refusal = 0; finished = p .finished; at = 0; lines = p .lines; bytes = p .bytes }
-sheetStruct (Sheet.the-variants.Refused num at) = record { refusal = num; finished = false; at = at; lines = 0; bytes = 0 }
+unfoldable pub sheetStruct : Sheet → SheetReply
+sheetStruct (Sheet.Written p) = record { refusal = 0; finished = p .finished; at = 0; lines = p .lines; bytes = p .bytes }
+sheetStruct (Sheet.Refused r) = record { refusal = r .num; finished = false; at = r .at; lines = 0; bytes = 0 }
 
-unfoldable pub slimStruct : Slim.Reply → SlimReply
-slimStruct (Slim.the-variants.Written n) = record { refusal = 0; at = 0; bytes = n }
-slimStruct (Slim.the-variants.Refused num at) = record { refusal = num; at = at; bytes = 0 }
+unfoldable pub slimStruct : Slim → SlimReply
+slimStruct (Slim.Written n) = record { refusal = 0; at = 0; bytes = n }
+slimStruct (Slim.Refused r) = record { refusal = r .num; at = r .at; bytes = 0 }
 
 -- the answer and the output of Sheet
 pub record SheetGiven (file label : List ℕ) (n : ℕ) (before after : List ℕ) (r : SheetReply) : Type 0 where

@@ -76,11 +76,11 @@ pub extern "C" fn meter_check(file: &[u8]) -> CheckReply
                 at: 0,
             }
         }
-        Answer::Refused { num, at } => CheckReply {
-            refusal: num,
+        Answer::Refused(r) => CheckReply {
+            refusal: r.num,
             function: 0,
             starts: [65535; 9],
-            at: at as u32,
+            at: r.at as u32,
         },
     }
 }
@@ -120,10 +120,10 @@ pub extern "C" fn meter_sheet<'a>(
             lines: p.lines,
             bytes: p.bytes,
         },
-        Sheeted::Refused { num, at } => SheetReply {
-            refusal: num,
+        Sheeted::Refused(r) => SheetReply {
+            refusal: r.num,
             finished: false,
-            at: at as u32,
+            at: r.at as u32,
             lines: 0,
             bytes: 0,
         },
@@ -140,9 +140,9 @@ pub extern "C" fn meter_slim(file: &[u8], out: &mut [u8]) -> SlimReply
             at: 0,
             bytes,
         },
-        Slimmed::Refused { num: refusal, at } => SlimReply {
-            refusal,
-            at: at as u32,
+        Slimmed::Refused(refusal) => SlimReply {
+            refusal: refusal.num,
+            at: refusal.at as u32,
             bytes: 0,
         },
     }

@@ -2,6 +2,7 @@
 use call_sheet::sheet;
 use call_slim::slim;
 use call_title::title;
+use file_refusal::Refusal;
 use libc::STDIN_FILENO;
 use libc::STDOUT_FILENO;
 use paging::fit::Progress;
@@ -10,9 +11,9 @@ ghost use mathlib.Core.Bool.{false};
 ghost use mathlib.Core.Path.{_≡_};
 ghost use Prim.Native.Nat.{_+_, _≤_, _<_};
 
-pub fn print_refusal(num: u8, at: usize) -> bool {
+pub fn print_refusal(refusal: Refusal) -> bool {
     let mut line = [0u8; 42];
-    let n = put_refusal(&mut line, num, at);
+    let n = put_refusal(&mut line, refusal);
     io::write_all(STDOUT_FILENO, &line[0..n])
 }
 
@@ -22,7 +23,7 @@ pub fn print_slim(file: &[u8]) -> bool {
     let mut copy = [0u8; 65536];
     match slim(file, &mut copy) {
         call_slim::Reply::Written(n) => io::write_all(STDOUT_FILENO, &copy[0..n]),
-        call_slim::Reply::Refused { num, at } => print_refusal(num, at),
+        call_slim::Reply::Refused(refusal) => print_refusal(refusal),
     }
 }
 
@@ -37,8 +38,8 @@ fn print_lines<'a>(file: &'a [u8], label: &'a [u8], n: u32, out: &mut [u8]) -> P
             io::write_all(STDOUT_FILENO, &out[0..size]);
             p
         }
-        call_sheet::Reply::Refused { num, at } => {
-            print_refusal(num, at);
+        call_sheet::Reply::Refused(refusal) => {
+            print_refusal(refusal);
             Progress {
                 lines: 0,
                 bytes: 0,

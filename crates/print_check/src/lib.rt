@@ -3,19 +3,21 @@ use call_check::check::Answer;
 use call_check::check::Outline;
 use call_check::check::check;
 use call_check::starts::Starts;
+use file_refusal::Refusal;
 use text::decimal::put_decimal;
 use text::decimal::put_short;
 use text::put::put_byte;
 use text::put::put_bytes;
-ghost use mathlib.Core.List.{[], _++_};
+ghost use mathlib.Core.List.{_++_, flatMap};
 ghost use Prim.Native.Nat.{_+_, _≤_};
-ghost use lib.ListN.{length, getD};
+ghost use lib.ListN.{length};
+ghost use Rattle.words.specs.Numbers.{numbersFrom};
 ghost use Rattle.text.specs.Ascii.{ascii};
 ghost use Rattle.text.specs.Decimal.{decimal};
-ghost use Rattle.text.specs.Text.{Wrote};
+ghost use Rattle.text.specs.Text.{named, Wrote};
+ghost use Rattle.call_check.specs.Starts.{placeCount};
 ghost use Rattle.call_check.specs.Check.{verdict};
-ghost use Rattle.call_check.specs.Starts.{startsIn};
-ghost use Rattle.print_check.specs.Replies.{refusal, entry, keys, entries, acceptance, reply};
+ghost use Rattle.print_check.specs.Replies.{refusalLine, entry, keys, startEntry, acceptance, reply};
 
 // Where the fault is, and the line's end.
 fn put_place(out: &mut [u8], at: usize) -> usize
@@ -27,19 +29,19 @@ fn put_place(out: &mut [u8], at: usize) -> usize
     b + put_byte(&mut out[b..], b'\n')
 }
 
-pub fn put_refusal(out: &mut [u8], num: u8, at: usize) -> usize
+pub fn put_refusal(out: &mut [u8], refusal: Refusal) -> usize
     requires { ⌜ 42 ≤ length (now out) ⌝ }
-    ensures { λ r. ⌜ Wrote (refusal num at) 42 (now (out .entry)) (now (out .exit)) r ⌝ }
+    ensures { λ r. ⌜ Wrote (refusalLine refusal) 42 (now (out .entry)) (now (out .exit)) r ⌝ }
 {
     let a = put_bytes(out, b"refused ");
-    let b = a + put_short(&mut out[a..], num as u64);
-    b + put_place(&mut out[b..], at)
+    let b = a + put_short(&mut out[a..], refusal.num as u64);
+    b + put_place(&mut out[b..], refusal.at)
 }
 
 // The key of a place of the record.
 fn put_key(out: &mut [u8], place: usize) -> usize
-    requires { ⌜ length (getD keys place []) ≤ length (now out) ⌝ }
-    ensures { λ r. ⌜ Wrote (getD keys place []) (length (getD keys place [])) (now (out .entry)) (now (out .exit)) r ⌝ }
+    requires { ⌜ 10 ≤ length (now out) ⌝ }
+    ensures { λ r. ⌜ Wrote (named keys place) 10 (now (out .entry)) (now (out .exit)) r ⌝ }
 {
     match place {
         0 => put_bytes(out, b" 01="),
@@ -57,8 +59,8 @@ fn put_key(out: &mut [u8], place: usize) -> usize
 
 // The key of a place and the start that stands there.
 fn put_entry(out: &mut [u8], place: usize, start: u16) -> usize
-    requires { ⌜ length (getD keys place []) + 9 ≤ length (now out) ⌝ }
-    ensures { λ r. ⌜ Wrote (entry (getD keys place []) start) (length (getD keys place []) + 9) (now (out .entry)) (now (out .exit)) r ⌝ }
+    requires { ⌜ 19 ≤ length (now out) ⌝ }
+    ensures { λ r. ⌜ Wrote (entry (named keys place) start) 19 (now (out .entry)) (now (out .exit)) r ⌝ }
 {
     let a = put_key(out, place);
     a + put_short(&mut out[a..], start as u64)
@@ -66,8 +68,8 @@ fn put_entry(out: &mut [u8], place: usize, start: u16) -> usize
 
 // The start word of each block.
 fn put_starts(out: &mut [u8], starts: Starts) -> usize
-    requires { ⌜ 123 ≤ length (now out) ⌝ }
-    ensures { λ r. ⌜ Wrote (entries keys (startsIn starts)) 123 (now (out .entry)) (now (out .exit)) r ⌝ }
+    requires { ⌜ 171 ≤ length (now out) ⌝ }
+    ensures { λ r. ⌜ Wrote (flatMap (startEntry starts) (numbersFrom 0 placeCount)) 171 (now (out .entry)) (now (out .exit)) r ⌝ }
 {
     let mut at = 0;
     let mut place = 0;
@@ -80,8 +82,8 @@ fn put_starts(out: &mut [u8], starts: Starts) -> usize
 }
 
 fn put_acceptance(out: &mut [u8], r: Outline) -> usize
-    requires { ⌜ 151 ≤ length (now out) ⌝ }
-    ensures { λ n. ⌜ Wrote (acceptance r) 151 (now (out .entry)) (now (out .exit)) n ⌝ }
+    requires { ⌜ 199 ≤ length (now out) ⌝ }
+    ensures { λ n. ⌜ Wrote (acceptance r) 199 (now (out .entry)) (now (out .exit)) n ⌝ }
 {
     let a = put_bytes(out, b"accepted function=");
     let b = a + put_short(&mut out[a..], r.function as u64);
@@ -90,21 +92,21 @@ fn put_acceptance(out: &mut [u8], r: Outline) -> usize
     c + put_byte(&mut out[c..], b'\n')
 }
 
-// 151 bytes hold an acceptance, and a refusal takes fewer.
+// 199 bytes hold an acceptance, and a refusal takes fewer.
 pub fn put_answer(out: &mut [u8], answer: Answer) -> usize
-    requires { ⌜ 151 ≤ length (now out) ⌝ }
-    ensures { λ r. ⌜ Wrote (reply answer) 151 (now (out .entry)) (now (out .exit)) r ⌝ }
+    requires { ⌜ 199 ≤ length (now out) ⌝ }
+    ensures { λ r. ⌜ Wrote (reply answer) 199 (now (out .entry)) (now (out .exit)) r ⌝ }
 {
     match answer {
         Answer::Accepted(r) => put_acceptance(out, r),
-        Answer::Refused { num, at } => put_refusal(out, num, at),
+        Answer::Refused(refusal) => put_refusal(out, refusal),
     }
 }
 
 // The line of Check's answer to a file.
 pub fn put_verdict(out: &mut [u8], file: &[u8]) -> usize
-    requires { ⌜ 151 ≤ length (now out) ⌝ }
-    ensures { λ r. ⌜ Wrote (reply (verdict (now (file .entry)))) 151 (now (out .entry)) (now (out .exit)) r ⌝ }
+    requires { ⌜ 199 ≤ length (now out) ⌝ }
+    ensures { λ r. ⌜ Wrote (reply (verdict (now (file .entry)))) 199 (now (out .entry)) (now (out .exit)) r ⌝ }
 {
     put_answer(out, check(file))
 }

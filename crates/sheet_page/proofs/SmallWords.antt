@@ -14,9 +14,9 @@ use Rattle.file_tables.specs.Table.{kindOf}
 use Rattle.call_check.specs.declared.judge.State.{State}
 use Rattle.call_check.specs.declared.judge.Judged.the-variants.{Passed}
 use Rattle.call_check.specs.Judge.{surveyed}
-use Rattle.call_check.specs.Starts.{placeOf, startOf}
+use Rattle.call_check.specs.Starts.{placeCount, placeOf}
 use Rattle.call_check.specs.Slims.{slimsIn, slimAfter, slimAt}
-use Rattle.call_check.proofs.StartLaws.{own-small}
+use Rattle.call_check.proofs.StartLaws.{startOf, own-small}
 use Rattle.call_check.proofs.Found.{Found, there, nowhere, found}
 use Rattle.file_read.proofs.Places.{block-at, none-at}
 use Rattle.call_check.proofs.FoundWords.{accepted-few}
@@ -46,7 +46,7 @@ record-below (suc p) ws s = record-below p (drop (high (getD ws 0 0)) ws) (below
 
 module _ (file : List ℕ) (s : State) (e : surveyed file ≡ Passed s) (small : Below 256 file) where
   -- the block at a place: a part of the file, or no words
-  block-small : (id : ℕ) → placeOf id < 9 → Below 65536 (blockAt (wordsOf file) (startOf id (s .starts)))
+  block-small : (id : ℕ) → placeOf id < placeCount → Below 65536 (blockAt (wordsOf file) (startOf id (s .starts)))
   block-small id i = go (found file s e id i)
     where
       ws : List ℕ

@@ -6,6 +6,7 @@ use call_check::check::check;
 use call_sheet::sheet;
 use call_slim::slim;
 use call_title::title;
+use file_refusal::Refusal;
 use libc::STDOUT_FILENO;
 use paging::fit::Progress;
 use test_packs::read_item;
@@ -23,14 +24,14 @@ enum Both {
 fn is_accepted(file: &[u8]) -> bool {
     match check(file) {
         Answer::Accepted(_) => true,
-        Answer::Refused { .. } => false,
+        Answer::Refused(_) => false,
     }
 }
 
-fn is_refusal(reply: call_sheet::Reply, number: u8, place: usize) -> bool {
+fn is_refusal(reply: call_sheet::Reply, refusal: Refusal) -> bool {
     match reply {
         call_sheet::Reply::Written(_) => false,
-        call_sheet::Reply::Refused { num, at } => num == number && at == place,
+        call_sheet::Reply::Refused(r) => r.num == refusal.num && r.at == refusal.at,
     }
 }
 
@@ -39,14 +40,14 @@ fn is_progress(reply: call_sheet::Reply, p: Progress) -> bool {
         call_sheet::Reply::Written(q) => {
             q.lines == p.lines && q.bytes == p.bytes && q.finished == p.finished
         }
-        call_sheet::Reply::Refused { .. } => false,
+        call_sheet::Reply::Refused(_) => false,
     }
 }
 
 fn is_same_reply(a: call_sheet::Reply, b: call_sheet::Reply) -> bool {
     match a {
         call_sheet::Reply::Written(p) => is_progress(b, p),
-        call_sheet::Reply::Refused { num, at } => is_refusal(b, num, at),
+        call_sheet::Reply::Refused(refusal) => is_refusal(b, refusal),
     }
 }
 
@@ -105,7 +106,7 @@ fn is_same_whole<'a>(file: &'a [u8], new: &'a [u8], label: &'a [u8]) -> bool {
 // Whether both are refused by this number, at word 0.
 fn is_refused(both: Both, number: u8) -> bool {
     match both {
-        Both::Same(reply) => is_refusal(reply, number, 0),
+        Both::Same(reply) => is_refusal(reply, Refusal { num: number, at: 0 }),
         Both::Differ => false,
     }
 }
@@ -130,10 +131,10 @@ fn is_same_sheet<'a>(file: &'a [u8], new: &'a [u8], label: &'a [u8]) -> bool {
         && is_same_11(file, new, label)
 }
 
-fn is_slim_refusal(reply: call_slim::Reply, number: u8, place: usize) -> bool {
+fn is_slim_refusal(reply: call_slim::Reply, refusal: Refusal) -> bool {
     match reply {
         call_slim::Reply::Written(_) => false,
-        call_slim::Reply::Refused { num, at } => num == number && at == place,
+        call_slim::Reply::Refused(r) => r.num == refusal.num && r.at == refusal.at,
     }
 }
 
@@ -158,7 +159,7 @@ fn is_same_copy(file: &[u8], new: &[u8], a: &mut [u8], b: &mut [u8]) -> bool {
 // Whether an output of no bytes is refused.
 fn is_without_room(file: &[u8]) -> bool {
     let mut scratch = [0xEEu8; 1];
-    is_slim_refusal(slim(file, &mut scratch[0..0]), 11, 0)
+    is_slim_refusal(slim(file, &mut scratch[0..0]), Refusal { num: 11, at: 0 })
 }
 
 fn is_same_slim(file: &[u8], new: &[u8]) -> bool {

@@ -23,7 +23,7 @@ fn lines_from<'a>(file: &'a [u8], label: &'a [u8], n: u32, out: &mut [u8]) -> Pr
 {
     match sheet(file, label, n, out) {
         Reply::Written(p) => p,
-        Reply::Refused { .. } => Progress {
+        Reply::Refused(_) => Progress {
             lines: 0,
             bytes: 0,
             finished: false,

@@ -21,7 +21,7 @@ ghost use lib.ListN.{length};
 
 // Prints the line of Check's answer.
 fn print_verdict(file: &[u8]) -> bool {
-    let mut line = [0u8; 151];
+    let mut line = [0u8; 199];
     let n = put_verdict(&mut line, file);
     io::write_all(STDOUT_FILENO, &line[0..n])
 }

@@ -11,7 +11,7 @@ fn print_copied(reply: call_slim::Reply) -> bool {
             io::print_decimal(STDOUT_FILENO, n as u64);
             io::write_all(STDOUT_FILENO, b" bytes\n")
         }
-        call_slim::Reply::Refused { num, at } => print_refusal(num, at),
+        call_slim::Reply::Refused(refusal) => print_refusal(refusal),
     }
 }
 
@@ -50,8 +50,8 @@ fn print_reply(reply: call_sheet::Reply) -> usize {
             print_progress(p);
             p.bytes
         }
-        call_sheet::Reply::Refused { num, at } => {
-            print_refusal(num, at);
+        call_sheet::Reply::Refused(refusal) => {
+            print_refusal(refusal);
             0
         }
     }

@@ -16,11 +16,11 @@ pub told : {A : Type 0} (text : A → List ℕ) {x variant : A} {d e : List ℕ}
 told text h w m = at-most (text-is w (ap text (sym h))) m
 
 -- N, and the code is none of the table's keys
-abbrev pub Others : Type 0 → List (ℕ × List ℕ) → ℕ → Type 0
+abbrev pub Others : {A : Type 0} → Type 0 → List (ℕ × A) → ℕ → Type 0
 Others N [] code = N
 Others N (n ∷ ns) code = Others (N × (code ≡ n .0 → ⊥)) ns code
 
-others-front : (N : Type 0) (table : List (ℕ × List ℕ)) (code : ℕ) → Others N table code → N
+pub others-front : {A : Type 0} (N : Type 0) (table : List (ℕ × A)) (code : ℕ) → Others N table code → N
 others-front N [] code h = h
 others-front N (n ∷ ns) code h = others-front (N × (code ≡ n .0 → ⊥)) ns code h .0
 

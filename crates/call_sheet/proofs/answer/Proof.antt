@@ -9,12 +9,12 @@ use Rattle.call_sheet.proofs.answer.Tie as tie
 returns : tie.Need-returns
 returns c =
     let a = c .before .before .before .before in
-    sheeted-label (a .args .file .now) (a .args .label .now) (a .args .n) (a .args .out .now) _ (a .args .state) (a .pre .passed) _ _ refl refl (omega (arith, c .if1 .taken)) refl
+    sheeted-label (a .args .file .now) (a .args .label .now) (a .args .n) (a .args .out .now) _ (a .args .state) (a .pre .passed) (omega (arith, c .if1 .taken)) refl
 
 returns-2 : tie.Need-returns-2
 returns-2 c =
     let a = c .before .before .before .before .before in
-    sheeted-room (a .args .file .now) (a .args .label .now) (a .args .n) (a .args .out .now) _ (a .args .state) (a .pre .passed) _ _ refl refl (omega (arith, c .before .if1 .left)) (omega (arith, c .if2 .taken)) refl
+    sheeted-room (a .args .file .now) (a .args .label .now) (a .args .n) (a .args .out .now) _ (a .args .state) (a .pre .passed) (omega (arith, c .before .if1 .left)) (omega (arith, c .if2 .taken)) refl
 
 fill-sheet-requires : tie.Need-fill-sheet-requires
 fill-sheet-requires c κs = (c .before .before .before .before .before .before .pre, omega (arith, c .before .before .if1 .left))

@@ -13,7 +13,7 @@ returns c = c .before .before .answer .ensures
 returns-2 : tie.Need-returns-2
 returns-2 c =
     let a = c .before .before .before .before .before .before .before in
-    sheeted-denied (a .args .file .now) (a .args .label .now) (a .args .n) (a .args .out .now) _ _ _ (sym (c .before .before .before .survey .ensures) ∙ c .before .num .given .1) refl
+    sheeted-denied (a .args .file .now) (a .args .label .now) (a .args .n) (a .args .out .now) _ _ (sym (c .before .before .before .survey .ensures) ∙ c .before .refusal .given .1) refl
 
 pub sheet-spec : {M : Type 1} → statement M
 sheet-spec = tie.close (tie.spec (λ c κs. search needs) (λ c. search needs) answer-requires (λ c. search needs) (λ c. search needs) returns returns-2)

@@ -1,6 +1,5 @@
 -- `call_slim::put_whole` meets its contract: room is tested before anything is written.
 use native.Mathlib.Omega.{arith}
-use mathlib.Core.Path.{refl}
 use borrow.Author.Needs.{needs}
 use Rattle.call_slim.specs.Copy.{slimCopy, outputBy}
 use Rattle.call_slim.proofs.CopyLaws.{copy-few}
@@ -16,7 +15,7 @@ mul-bytes c =
 returns : tie.Need-returns
 returns c =
     let file = c .before .before .before .before .args .file .now in
-    (no-room (slimCopy file) _ _ _ (omega (arith, copy-length file, c .before .copy-words .ensures)) refl refl, left-alone (slimCopy file) _ _ _)
+    (no-room (slimCopy file) _ (omega (arith, copy-length file, c .before .copy-words .ensures)), left-alone (slimCopy file) _ _)
 
 put-copy-requires : tie.Need-put-copy-requires
 put-copy-requires c κs =

@@ -14,7 +14,7 @@ returns c =
     slimmed-passed _ _ _ _ (sym (e .before .before .survey .ensures) ∙ e .enum-told .given .1) _ (w .0) (w .1)
 
 returns-2 : tie.Need-returns-2
-returns-2 c = slimmed-denied _ _ _ _ _ (sym (c .before .before .before .survey .ensures) ∙ c .before .num .given .1) refl
+returns-2 c = slimmed-denied _ _ _ _ (sym (c .before .before .before .survey .ensures) ∙ c .before .refusal .given .1) refl
 
 pub slim-spec : {M : Type 1} → statement M
 slim-spec =

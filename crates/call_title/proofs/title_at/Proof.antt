@@ -9,7 +9,7 @@ use Rattle.call_title.proofs.title_at.Tie as tie
 returns : tie.Need-returns
 returns c =
     let s = c .before .before in
-    sym (title-denied (s .before .before .args .file .now) _ _ (sym (s .survey .ensures) ∙ c .enum-told .given .1))
+    sym (title-denied (s .before .before .args .file .now) (sym (s .survey .ensures) ∙ c .enum-told .given .1))
 
 returns-2 : tie.Need-returns-2
 returns-2 c =

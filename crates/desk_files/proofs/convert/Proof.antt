@@ -11,7 +11,7 @@ returns : tie.Need-returns
 returns c =
     let k = c .before .before .before .before in
     let a = k .before .before .before .before .before .before .before .args in
-    refused _ _ _ (with-front (c .front-of .ensures) (check-refused (a .task) (a .file .now) (a .label .now) _ _ (rw (c .before .before .num .given .1) at (k .check .ensures))))
+    refused _ _ (with-front (c .front-of .ensures) (check-refused (a .task) (a .file .now) (a .label .now) _ (rw (c .before .before .refusal .given .1) at (k .check .ensures))))
 
 returns-2 : tie.Need-returns-2
 unfolding taskOf

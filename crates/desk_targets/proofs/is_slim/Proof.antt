@@ -16,7 +16,7 @@ returns : tie.Need-returns
 returns c =
     let s = c .before .before .before .before .before in
     let k = s .before .before .before in
-    refused-not (λ i. omega (arith, k .shared-slice-known .given i)) (omega (arith, k .before .pre)) (rw (c .before .num .given .1) at (s .slim .ensures))
+    refused-not (λ i. omega (arith, k .shared-slice-known .given i)) (omega (arith, k .before .pre)) (rw (c .before .refusal .given .1) at (s .slim .ensures))
 
 returns-2 : tie.Need-returns-2
 returns-2 c =

@@ -15,7 +15,7 @@ returns-2 : tie.Need-returns-2
 unfolding Checked verdict answered
 returns-2 c =
     let s = c .before in
-    ap values (ap answered (sym (s .num .given .1) ∙ s .before .before .survey .ensures))
+    ap values (ap answered (sym (s .refusal .given .1) ∙ s .before .before .survey .ensures))
 
 pub check-spec : {M : Type 1} → statement M
 check-spec = tie.close (tie.spec (λ c κs. search needs) (λ c. search needs) (λ c. search needs) returns returns-2)

@@ -7,7 +7,8 @@ use Rattle.words.specs.Words.{wordsOf}
 use Rattle.words.proofs.WordLaws.{words-length}
 use Rattle.file_walk.specs.Walk.{walked}
 use Rattle.file_walk.proofs.Steps.{step-block}
-use Rattle.call_check.specs.Judge.{firstState, judge, judgedStep, Near}
+use Rattle.call_check.specs.Judge.{firstState, judge}
+use Rattle.call_check.specs.Steps.{judgedStep, Near}
 use Rattle.call_check.proofs.Turns.{near, Ahead, ahead, turn-over, turn-deny, turn-pass}
 use borrow.Author.Needs.{needs}
 use Rattle.call_check.proofs.judge.judge_blocks.Statement.{statement}
@@ -45,7 +46,7 @@ returns-2 c =
     let e = c .before .before .before .before .step2 .given .1 in
     let j = c .before .before .judged2 .ensures in
     let d = c .enum-told2 .given .1 in
-    d ∙ turn-deny (s .before .loop .inv .1) _ _ _ _ _ (sym (s .step .ensures) ∙ e) _ _ (sym j ∙ d)
+    d ∙ turn-deny (s .before .loop .inv .1) _ _ _ _ _ (sym (s .step .ensures) ∙ e) (sym j ∙ d)
 
 loop-less : tie.Need-loop-less Inv-loop μ-loop
 loop-less c =

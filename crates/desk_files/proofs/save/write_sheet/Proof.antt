@@ -23,7 +23,7 @@ loop-holds c = (omega arith, refl, omega arith)
 returns : tie.Need-returns Inv-loop μ-loop
 returns c =
     let s = c .before .before .before .before .before .before in
-    as-due _ (with-front (c .front-of .ensures) (sheet-refused (rw (c .before .before .num .given .1) at (s .sheet .ensures)) (omega (arith, s .before .before .loop .inv .1, s .before .before .before .before .before .before .pre))))
+    as-due _ (with-front (c .front-of .ensures) (sheet-refused (rw (c .before .before .refusal .given .1) at (s .sheet .ensures)) (omega (arith, s .before .before .loop .inv .1, s .before .before .before .before .before .before .pre))))
 
 returns-2 : tie.Need-returns-2 Inv-loop μ-loop
 returns-2 c = unwritten _

@@ -21,7 +21,7 @@ returns-2 : tie.Need-returns-2
 returns-2 c =
     let s = c .before .before .before .before .before .before in
     let k = s .before .before .before in
-    as-due _ (with-front (c .front-of .ensures) (ap (by-slim (k .before .args .file .now)) (sym (c .before .before .num .given .1)) ∙ slim-said (s .slim .ensures) (λ i. omega (arith, k .shared-slice-known .given i)) (omega (arith, k .before .pre)) []))
+    as-due _ (with-front (c .front-of .ensures) (ap (by-slim (k .before .args .file .now)) (sym (c .before .before .refusal .given .1)) ∙ slim-said (s .slim .ensures) (λ i. omega (arith, k .shared-slice-known .given i)) (omega (arith, k .before .pre)) []))
 
 returns-3 : tie.Need-returns-3
 returns-3 c =

@@ -16,8 +16,8 @@ returns c =
     let args = c .before .before .before .args in
     simp (← c .before .count .ensures, lt-ltb (c .before .count .result) (args .len) (omega arith))
 
-add-t16 : tie.Need-add-t16
-add-t16 c =
+add-t17 : tie.Need-add-t17
+add-t17 c =
     let known = c .before .before .before .before .before in
     let args = known .before .args in
     let ws = wordsOf (args .left .now) in
@@ -26,7 +26,7 @@ add-t16 c =
     omega arith
 
 add-t8 : tie.Need-add-t8
-add-t8 c = omega (arith, add-t16 c)
+add-t8 c = omega (arith, add-t17 c)
 
 returns-2 : tie.Need-returns-2
 unfolding stepped
@@ -38,4 +38,4 @@ returns-2 c =
 pub cut-spec : {M : Type 1} → statement M
 cut-spec =
     tie.close
-    (tie.spec (λ c κs. search needs) returns (λ c κs. search needs) (λ c κs. search needs) (λ c κs. search needs) (λ c. search needs) (λ c. search needs) add-t8 add-t16 returns-2)
+    (tie.spec (λ c κs. search needs) returns (λ c κs. search needs) (λ c κs. search needs) (λ c κs. search needs) (λ c. search needs) (λ c. search needs) add-t8 add-t17 returns-2)

@@ -2,7 +2,8 @@
 use borrow.Author.Tests.{eq-eqb, ne-eqb, not-true, not-false}
 use native.Mathlib.Omega.{arith}
 use mathlib.Core.Path.{refl, sym, subst, _∙_}
-use Rattle.call_check.specs.Judge.{closed, Ends}
+use Rattle.call_check.specs.Judge.{closed}
+use Rattle.call_check.specs.Steps.{Ends}
 use borrow.Author.Needs.{needs}
 use Rattle.call_check.proofs.judge.State.closed.Statement.{statement}
 use Rattle.call_check.proofs.judge.State.closed.Tie as tie

@@ -2,7 +2,8 @@
 use mathlib.Core.Path.{sym, ap, subst, _∙_}
 use lib.ListN.{take}
 use Rattle.words.specs.Words.{wordsOf}
-use Rattle.call_check.specs.Judge.{seenIn, judgedStep, Near}
+use Rattle.call_check.specs.Judge.{seenIn}
+use Rattle.call_check.specs.Steps.{judgedStep, Near}
 use borrow.Author.Needs.{needs}
 use Rattle.call_check.proofs.judge.State.judged.Statement.{statement}
 use Rattle.call_check.proofs.judge.State.judged.Tie as tie

@@ -58,8 +58,8 @@ returns-4 c =
     let e = f .row-for .ensures ∙ ap (rowFor (a .self .setup)) (f .before .word .ensures) in
     let key = c .before .before .before .before .before .before .key-of .ensures ∙ ap keyOf (f .before .word .ensures) in
     let d = sym (c .before .before .before .before .before .has .ensures ∙ ap (isDue (a .self .due)) key) in
-    let bad = sym (c .before .before .before .keeps .ensures) ∙ c .before .num .given .1 in
-    seen-bad (f .row-for .result) (a .self) (a .at) b e (not-false _ (c .before .before .before .before .before .before .before .if1 .left)) (d ∙ not-false _ (c .before .before .before .before .if2 .left)) _ _ bad
+    let bad = sym (c .before .before .before .keeps .ensures) ∙ c .before .refusal .given .1 in
+    seen-bad (f .row-for .result) (a .self) (a .at) b e (not-false _ (c .before .before .before .before .before .before .before .if1 .left)) (d ∙ not-false _ (c .before .before .before .before .if2 .left)) bad
 
 pub seen-spec : {M : Type 1} → statement M
 seen-spec = tie.close (tie.spec (λ c κs. search needs) (λ c κs. search needs) (λ c κs. search needs) returns (λ c κs. search needs) (λ c κs. search needs) returns-2 keeps-requires (λ c. search needs) (λ c κs. search needs) (λ c. search needs) returns-3 returns-4)

@@ -1,9 +1,8 @@
 -- `starts::Starts::start` is the start at a place.
-use mathlib.Core.Path.{_≡_, sym}
+use mathlib.Core.Path.{_≡_, refl, sym}
 use Prim.Native.Nat.{ℕ, suc, _≤_, zero-le}
 use native.Mathlib.Omega.{arith}
 use lib.ListN.{List·getD-eq-default}
-use borrow.Author.Needs.{needs}
 use Rattle.call_check.specs.Starts.{absent, startsIn}
 use Rattle.call_check.proofs.starts.Starts.start.Statement.{statement}
 use Rattle.call_check.proofs.starts.Starts.start.Tie as tie
@@ -21,4 +20,14 @@ returns-10 c =
 pub start-spec : {M : Type 1} → statement M
 start-spec =
     tie.close
-    (tie.spec (λ c. search needs) (λ c. search needs) (λ c. search needs) (λ c. search needs) (λ c. search needs) (λ c. search needs) (λ c. search needs) (λ c. search needs) (λ c. search needs) returns-10)
+    (tie.spec
+    (λ c. rw (c .match .keys1) refl)
+    (λ c. rw (c .match .keys2) refl)
+    (λ c. rw (c .match .keys3) refl)
+    (λ c. rw (c .match .keys4) refl)
+    (λ c. rw (c .match .keys5) refl)
+    (λ c. rw (c .match .keys6) refl)
+    (λ c. rw (c .match .keys7) refl)
+    (λ c. rw (c .match .keys8) refl)
+    (λ c. rw (c .match .keys9) refl)
+    returns-10)

@@ -1,2 +1,0 @@
--- The laws of the printed line.
-pub mod EntryLaws
