@@ -50,7 +50,7 @@ pub struct SlimReply {
 }
 
 // The starts of the record, in its order.
-fn listed(starts: Starts) -> [u16; 9]
+fn starts_of(starts: Starts) -> [u16; 9]
     ensures { λ r. ⌜ r ≡ startsIn starts ⌝ }
 {
     let mut list = [0u16; 9];
@@ -72,7 +72,7 @@ pub extern "C" fn meter_check(file: &[u8]) -> CheckReply
             CheckReply {
                 refusal: 0,
                 function: r.function as u8,
-                starts: listed(starts),
+                starts: starts_of(starts),
                 at: 0,
             }
         }

@@ -19,7 +19,7 @@ cast-t10 c =
 returns : tie.Need-returns
 returns c =
     let r = c .before .before .before .before in
-    check-accepted _ (r .before .before .check .ensures) (r .r .given .1) (c .listed .ensures)
+    check-accepted _ (r .before .before .check .ensures) (r .r .given .1) (c .starts-of .ensures)
 
 returns-2 : tie.Need-returns-2
 returns-2 c =

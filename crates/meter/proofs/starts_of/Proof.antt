@@ -1,4 +1,4 @@
--- `listed` lists the starts: those before `place` are in their places.
+-- `starts_of` lists the starts: those before `place` are in their places.
 use mathlib.Core.Path.{_≡_, refl, sym, _∙_}
 use Prim.Native.Nat.{_-_}
 use native.Mathlib.Numerals.{add-one}
@@ -7,8 +7,8 @@ use lib.ListN.{length, take, length-set}
 use lib.Seq.{take-all, take-suc, take-suc-set}
 use borrow.Author.Needs.{needs}
 use Rattle.call_check.specs.Starts.{absent, startsIn}
-use Rattle.meter.proofs.listed.Statement.{statement}
-use Rattle.meter.proofs.listed.Tie as tie
+use Rattle.meter.proofs.starts_of.Statement.{statement}
+use Rattle.meter.proofs.starts_of.Tie as tie
 
 abbrev Inv-loop : tie.InvT-loop
 Inv-loop starts list₀ place₀ list place = (length list ≡ 9) × (take place list ≡ take place (startsIn starts))
@@ -27,7 +27,7 @@ returns c =
     let l = c .before in
     sym (take-all (l .loop .place) (l .loop .list) (omega (arith, l .loop .inv .0))) ∙ l .loop .inv .1 ∙ take-all (l .loop .place) (startsIn (l .before .args .starts)) (omega arith)
 
-pub listed-spec : {M : Type 1} → statement M
-listed-spec =
+pub starts-of-spec : {M : Type 1} → statement M
+starts-of-spec =
     tie.close
     (tie.spec Inv-loop μ-loop (λ c. (refl, refl)) (λ c κs. search needs) (λ c. search needs) (λ c. search needs) (λ c. search needs) (λ c. search needs) loop-again returns)
