@@ -7,13 +7,13 @@ use crate::starts::Starts;
 use file_refusal::Refusal;
 
 // What document 01 calls the record: the function, and the starts of the listed blocks.
-#[derive(Drop)]
+#[derive(Clone, Copy)]
 pub struct Outline {
     pub function: u16,
     pub starts: Starts,
 }
 
-#[derive(Drop)]
+#[derive(Clone, Copy)]
 pub enum Answer {
     Accepted(Outline),
     Refused(Refusal),

@@ -14,7 +14,7 @@ use file_walk::{Cursor, Step, Stop};
 use words::{front, rest, word};
 
 // What is known between two blocks.
-#[derive(Drop)]
+#[derive(Clone, Copy)]
 pub struct State {
     pub due: Due,
     pub setup: Setup,
@@ -22,7 +22,7 @@ pub struct State {
 }
 
 // What became of a state: it goes on, or the file is refused.
-#[derive(Drop)]
+#[derive(Clone, Copy)]
 pub enum Judged {
     Passed(State),
     Refused(Refusal),

@@ -3,7 +3,7 @@ ghost use Rattle.std.specs.Prelude.{[], ◌≡◌, get_or};
 ghost use Rattle.call_check.specs.Starts.{absent, starts_in, starts_of, noted};
 
 // What document 01 calls the starts of the record: of 01, 02, 03, 04, 05, 07, 0E or 10, 09 and 0F; 65,535 for an absent block.
-#[derive(Drop)]
+#[derive(Clone, Copy)]
 pub struct Starts {
     pub file: u16,
     pub unit: u16,

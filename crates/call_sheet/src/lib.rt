@@ -1,4 +1,6 @@
 // Sheet: the lines of a file's sheet, as many whole ones as fit.
+#![tactic(auto)]
+
 ghost use Rattle.std.specs.Prelude.{◌≤◌, length, drop};
 ghost use Rattle.paging.specs.Fit.{Filled};
 ghost use Rattle.sheet_page.specs.Sheet.{sheet_texts};
@@ -14,7 +16,7 @@ use sheet_sections::{
 };
 
 // The answer of Sheet: how many lines and bytes were written and whether they are the last, or a refusal.
-#[derive(Drop)]
+#[derive(Clone, Copy)]
 pub enum Reply {
     Written(Progress),
     Refused(Refusal),

@@ -1,4 +1,6 @@
 // Slim: the slim copy of a file, written into a lent output.
+#![tactic(auto)]
+
 ghost use Rattle.std.specs.Prelude.{◌≡◌, length, get_or};
 ghost use Rattle.words.specs.Words.{words_of};
 ghost use Rattle.file_order.specs.Setup.{row_for};
@@ -17,7 +19,7 @@ use file_walk::{Cursor, Step, raw_words};
 use words::{front, rest, word};
 
 // The answer of Slim: how many bytes were written, or a refusal.
-#[derive(Drop)]
+#[derive(Clone, Copy)]
 pub enum Reply {
     Written(usize),
     Refused(Refusal),

@@ -1,4 +1,6 @@
 // Title: the text of block 03 where it stands in the file, or the label.
+#![tactic(auto)]
+
 ghost use Rattle.std.specs.Prelude.{◌≡◌};
 ghost use Rattle.call_title.specs.Title.{title_at, Titled};
 
@@ -7,7 +9,7 @@ use text::read::before_null;
 use words::rest;
 
 // Where a title stands: `len` bytes of the file from byte `at` on, or in the label.
-#[derive(Drop)]
+#[derive(Clone, Copy)]
 pub enum TitleAt {
     Text { at: usize, len: usize },
     Label,

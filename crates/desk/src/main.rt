@@ -1,4 +1,6 @@
 // Converts the files that its arguments name, and says what came of each. The script ./desk calls it.
+#![tactic(auto)]
+
 use desk_return::desk;
 
 fn main() {

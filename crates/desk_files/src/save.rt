@@ -15,7 +15,7 @@ use text::decimal::put_decimal;
 use text::put::put_bytes;
 
 // A part that was made, or why not: its descriptor, or one below 0; and how long its path is.
-#[derive(Drop)]
+#[derive(Clone, Copy)]
 struct Part {
     fd: i32,
     len: usize,

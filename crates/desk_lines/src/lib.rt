@@ -1,4 +1,6 @@
 // What the desk says: a line for each file with what came of it, a summary, and the names that did not get through once more.
+#![tactic(auto)]
+
 ghost use Rattle.std.specs.Prelude.{cond, [], ◌++◌, ◌≡◌, ◌+◌, ◌-◌, ◌≤◌, ◌<◌, eqb, length};
 ghost use Rattle.text.specs.Ascii.{ascii};
 ghost use Rattle.text.specs.Decimal.{decimal};
@@ -12,7 +14,7 @@ use text::decimal::put_decimal;
 use text::put::{put_byte, put_bytes};
 
 // By what a target is taken, so that nothing is written there.
-#[derive(Drop)]
+#[derive(Clone, Copy)]
 pub enum Taken {
     Input,
     NoSheet,
@@ -23,7 +25,7 @@ pub enum Taken {
 }
 
 // What came of a file. An error is the system's number of it.
-#[derive(Drop)]
+#[derive(Clone, Copy)]
 pub enum Outcome {
     Converted { lines: u32 },
     Copied { bytes: usize },
@@ -35,7 +37,7 @@ pub enum Outcome {
 }
 
 // How it is counted: converted, copied or accepted; refused; not read or written.
-#[derive(Drop)]
+#[derive(Clone, Copy)]
 pub enum Fate {
     Done,
     Refused,
@@ -76,7 +78,7 @@ pub fn fate_byte(fate: Fate) -> u8
 }
 
 // How many files of each fate.
-#[derive(Drop)]
+#[derive(Clone, Copy)]
 pub struct Tally {
     pub done: usize,
     pub refused: usize,

@@ -1,4 +1,6 @@
 // What stands where a sheet or a slim copy is to be written. Nothing is written over a file that is not ours.
+#![tactic(auto)]
+
 pub mod load;
 
 ghost use Rattle.std.specs.Prelude.{◌≡◌, ◌≤◌, length};
@@ -11,7 +13,7 @@ use text::read::is_same;
 
 // What is known of a file before it is opened: whether it is a pipe or a device, whether an earlier file has its target, and
 // whether a pipe or a device stands there.
-#[derive(Drop)]
+#[derive(Clone, Copy)]
 pub struct Mark {
     pub pipe: bool,
     pub claimed: bool,
@@ -19,14 +21,14 @@ pub struct Mark {
 }
 
 // What is written of a file.
-#[derive(Drop)]
+#[derive(Clone, Copy)]
 pub enum Form {
     Sheet,
     Slim,
 }
 
 // A target that may be written, or by what it is taken.
-#[derive(Drop)]
+#[derive(Clone, Copy)]
 pub enum Target {
     Free,
     Held { by: Taken },

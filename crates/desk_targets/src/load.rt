@@ -3,7 +3,7 @@ ghost use Rattle.std.specs.Prelude.{length};
 ghost use Rattle.desk_targets.specs.Target.{Fits};
 
 // What reading gave: n bytes at the front of what holds them, or the system's number of an error.
-#[derive(Drop)]
+#[derive(Clone, Copy)]
 pub enum Got {
     Bytes(usize),
     Failed(u16),

@@ -1,4 +1,6 @@
 // Refusals and errors in plain words.
+#![tactic(auto)]
+
 ghost use Rattle.std.specs.Prelude.{◌++◌, ◌≤◌, length};
 ghost use Rattle.text.specs.Ascii.{ascii};
 ghost use Rattle.text.specs.Decimal.{decimal};
@@ -10,7 +12,7 @@ use text::decimal::{put_decimal, put_short};
 use text::put::put_bytes;
 
 // How a file begins: as a meter file does, by block 01; otherwise; or not at all.
-#[derive(Drop)]
+#[derive(Clone, Copy)]
 pub enum Front {
     Meter,
     Other,

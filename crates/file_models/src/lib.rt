@@ -1,1 +1,3 @@
 // No code: the models that are read. See specs/Models.antt.
+#![tactic(auto)]
+

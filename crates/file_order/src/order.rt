@@ -5,7 +5,7 @@ ghost use Rattle.file_order.specs.Order.{key_of, either, only, is_due, passed_ov
 use crate::setup::Setup;
 
 // The blocks that may come next, by their keys. Where fewer than three are due, the last is named again.
-#[derive(Drop)]
+#[derive(Clone, Copy)]
 pub struct Due {
     pub one: u16,
     pub two: u16,

@@ -10,7 +10,7 @@ use file_tables::{histogram_row, logger_row, row_of};
 use words::word;
 
 // What later blocks depend on: the model, the function, the levels of bands and of profiles in a buffer record, the numbers of classes.
-#[derive(Drop)]
+#[derive(Clone, Copy)]
 pub struct Setup {
     pub model: u16,
     pub function: u16,

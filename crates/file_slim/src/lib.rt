@@ -1,4 +1,6 @@
 // The slim form of a block, by any row: how many words it has, and its bytes. No table stands here.
+#![tactic(auto)]
+
 ghost use Rattle.std.specs.Prelude.{true, ◌≡◌, ◌+◌, ◌/◌, ◌<◌, ◌≤◌, length, drop};
 ghost use mathlib.Core.List.{[], ◌∷◌, flatten};
 ghost use Rattle.words.specs.Words.{words_of};

@@ -1,4 +1,6 @@
 // The tables of the 945 and of the 953, as data: what is asked of each listed block.
+#![tactic(auto)]
+
 ghost use Rattle.std.specs.Prelude.{◌≡◌, [], ◌∷◌, ◌+◌};
 ghost use Rattle.file_tables.specs.Table.{rule, within, equals, one_of, either_of, also, rules, no_subs, table_row, unit_row, title_row, settings_row, profiles_row, results_row, octave_row, third_row, statistics_row, histogram_row, band_rules, logger_row, unlisted, in_model, row_of};
 ghost use Rattle.file_rules.specs.declared.More.TheVariants.{Nothing};

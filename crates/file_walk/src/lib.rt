@@ -1,4 +1,6 @@
 // The walk over the blocks of a meter file: where each starts, how long it is, and where the next one starts.
+#![tactic(auto)]
+
 ghost use Rattle.std.specs.Prelude.{◌≡◌, ◌≤◌, length};
 ghost use Rattle.words.specs.Words.{words_of};
 ghost use Rattle.file_walk.specs.Walk.{fitted, long_form, raw_of, stepped, step_at};
@@ -7,21 +9,21 @@ use file_refusal::Refusal;
 use words::{count, front, long, rest, word};
 
 // A place between two blocks: the word `at`, and where the block before it starts.
-#[derive(Drop)]
+#[derive(Clone, Copy)]
 pub struct Cursor {
     pub at: usize,
     pub last: usize,
 }
 
 // Why the walk is over: the end marker, with `left` words after it, or a refusal.
-#[derive(Drop)]
+#[derive(Clone, Copy)]
 pub enum Stop {
     End { at: usize, left: usize },
     Refused(Refusal),
 }
 
 // A step of the walk.
-#[derive(Drop)]
+#[derive(Clone, Copy)]
 pub enum Step {
     Block {
         id: u8,

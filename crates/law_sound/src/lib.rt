@@ -1,1 +1,3 @@
 // No code: what holds of any block and any row of the tables. See proofs/.
+#![tactic(auto)]
+

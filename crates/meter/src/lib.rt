@@ -1,4 +1,6 @@
 // The four calls for callers from outside: an answer as a struct that C and Rust share (include/meter.h).
+#![tactic(auto)]
+
 ghost use Rattle.std.specs.Prelude.{◌≡◌, length};
 ghost use Rattle.call_check.specs.Check.{verdict};
 ghost use Rattle.call_check.specs.Starts.{starts_in};
@@ -14,7 +16,7 @@ use call_title::{TitleAt, title_at};
 // Check's answer. `refusal` is 0 for an accepted file; `function` is 1 to 4, and 0 in a refused file; `starts` are those of 01, 02, 03,
 // 04, 05, 07, 0E or 10, 09 and 0F, 65,535 for an absent block and in a refused file.
 #[repr(C)]
-#[derive(Drop)]
+#[derive(Clone, Copy)]
 pub struct CheckReply {
     pub refusal: u8,
     pub function: u8,
@@ -24,7 +26,7 @@ pub struct CheckReply {
 
 // Where Title's text stands: `len` bytes from byte `at` on, of the file or of the label.
 #[repr(C)]
-#[derive(Drop)]
+#[derive(Clone, Copy)]
 pub struct TitleReply {
     pub from_file: bool,
     pub at: usize,
@@ -32,7 +34,7 @@ pub struct TitleReply {
 }
 
 #[repr(C)]
-#[derive(Drop)]
+#[derive(Clone, Copy)]
 pub struct SheetReply {
     pub refusal: u8,
     pub finished: bool,
@@ -42,7 +44,7 @@ pub struct SheetReply {
 }
 
 #[repr(C)]
-#[derive(Drop)]
+#[derive(Clone, Copy)]
 pub struct SlimReply {
     pub refusal: u8,
     pub at: u32,

@@ -4,7 +4,7 @@ ghost use Rattle.paging.specs.Fit.{TriedTo};
 use text::put::put_bytes;
 
 // How far a call came.
-#[derive(Drop)]
+#[derive(Clone, Copy)]
 pub struct Progress {
     pub lines: u32,
     pub bytes: usize,
@@ -12,7 +12,7 @@ pub struct Progress {
 }
 
 // What became of one line: its length, or no room for it.
-#[derive(Drop)]
+#[derive(Clone, Copy)]
 pub enum Tried {
     Put(usize),
     Full,

@@ -7,7 +7,7 @@ use crate::fit::Tried;
 
 // How many lines are still to be passed over; how many lines and bytes were written; whether every line so far that was not
 // passed over was written.
-#[derive(Drop)]
+#[derive(Clone, Copy)]
 pub struct Run {
     pub skip: usize,
     pub lines: usize,

@@ -1,4 +1,6 @@
 // What the programs print of the answers of Title, Slim and Sheet.
+#![tactic(auto)]
+
 ghost use Rattle.std.specs.Prelude.{false, ◌≡◌, ◌+◌, ◌≤◌, ◌<◌};
 
 use call_sheet::sheet;

@@ -1,4 +1,6 @@
 // The line that is printed of an answer of Check.
+#![tactic(auto)]
+
 ghost use mathlib.Core.List.{◌++◌, flat_map};
 ghost use Rattle.std.specs.Prelude.{◌+◌, ◌≤◌, length};
 ghost use Rattle.words.specs.Numbers.{numbers_from};

@@ -1,4 +1,6 @@
 // Prints the sheet of the file on standard input, with the argument as the label, or the refusal.
+#![tactic(auto)]
+
 use print_calls::sheet_of_input;
 
 fn main() {

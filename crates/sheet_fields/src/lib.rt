@@ -1,5 +1,7 @@
 // The fields of the sheet's lines, from plain values, each after its comma. Each writer is lent the output from its first free
 // byte on, and answers how many bytes it wrote.
+#![tactic(auto)]
+
 ghost use Rattle.std.specs.Prelude.{[], ◌∷◌, ◌++◌, map, ◌+◌, ◌*◌, ◌≤◌, length};
 ghost use Rattle.words.specs.Words.{words_of};
 ghost use Rattle.words.specs.Numbers.{numbers_from};

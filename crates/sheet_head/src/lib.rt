@@ -1,5 +1,7 @@
 // The head lines of the sheet: a key and a number, or a key and a text. Each writer is lent the output from its first free byte on, and
 // answers how many bytes its line has, the line's end included.
+#![tactic(auto)]
+
 ghost use Rattle.std.specs.Prelude.{false, ◌≡◌, map, ◌++◌, ◌+◌, ◌*◌, ◌≤◌, length};
 ghost use Rattle.text.specs.Ascii.{ascii};
 ghost use Rattle.text.specs.Decimal.{decimal};

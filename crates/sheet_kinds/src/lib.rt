@@ -1,4 +1,6 @@
 // The lines that are made of numbers alone, as values: one writer for all kinds.
+#![tactic(auto)]
+
 ghost use Rattle.std.specs.Prelude.{◌≤◌, length};
 ghost use Rattle.text.specs.Text.{Wrote};
 ghost use Rattle.sheet_lines.specs.Line.{bytes};
@@ -15,7 +17,7 @@ use units::level::Tenths;
 use words::Three;
 
 // A line that is made of numbers alone.
-#[derive(Drop)]
+#[derive(Clone, Copy)]
 pub enum Line {
     Unit(u16),
     Number(u16),

@@ -1,4 +1,6 @@
 // The names of filters, buffered levels and columns. A code that has no name shows nothing; accepted files have none.
+#![tactic(auto)]
+
 ghost use Rattle.std.specs.Prelude.{◌++◌, ◌≤◌, length};
 ghost use Rattle.text.specs.Ascii.{ascii};
 ghost use Rattle.text.specs.Text.{Wrote, named};

@@ -1,1 +1,3 @@
 // The definition of the sheet stands in specs/: there is no code here.
+#![tactic(auto)]
+

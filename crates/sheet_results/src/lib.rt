@@ -1,4 +1,6 @@
 // The results that a sheet shows, by model and function: the name, the unit, the kind of number and the place of each.
+#![tactic(auto)]
+
 ghost use Rattle.std.specs.Prelude.{◌++◌, ◌≡◌, ◌≤◌, length};
 ghost use Rattle.text.specs.Text.{Wrote};
 ghost use Rattle.file_models.specs.Models.{columns};
@@ -6,7 +8,7 @@ ghost use Rattle.sheet_results.specs.Results.{name_of, unit_of, results945, resu
 
 use text::put::put_bytes;
 
-#[derive(Drop)]
+#[derive(Clone, Copy)]
 pub enum ResultName {
     Peak,
     Max,
@@ -24,7 +26,7 @@ pub enum ResultName {
     Tlav,
 }
 
-#[derive(Drop)]
+#[derive(Clone, Copy)]
 pub enum UnitName {
     Decibel,
     Percent,
@@ -32,14 +34,14 @@ pub enum UnitName {
 }
 
 // What a result's words are: tenths with a sign, or whole numbers without one.
-#[derive(Drop)]
+#[derive(Clone, Copy)]
 pub enum Number {
     Level,
     Plain,
 }
 
 // A row of the results, and the offset of its words in a profile's record.
-#[derive(Drop)]
+#[derive(Clone, Copy)]
 pub struct Entry {
     pub name: ResultName,
     pub unit: UnitName,

@@ -1,4 +1,6 @@
 // Prints the slim copy of the file on standard input, or the refusal of the file.
+#![tactic(auto)]
+
 use print_calls::slim_of_input;
 
 fn main() {

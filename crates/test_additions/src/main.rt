@@ -1,6 +1,8 @@
 // Compares what the calls reply to both files of each pair of the pack on standard input, whose items are a name, a label, a file
 // (an empty one stands for the file before it) and the same file with additions. Prints whether that is another file, whether Check
 // accepts it, and whether Sheet, Slim and Title reply to it just as they do to the file itself.
+#![tactic(auto)]
+
 ghost use Rattle.std.specs.Prelude.{◌≤◌, length};
 
 use call_check::check::{Answer, check};
@@ -14,7 +16,7 @@ use test_packs::{read_item, read_next};
 use text::read::is_same;
 
 // The reply of Sheet to two files, with every byte of the outputs the same; or not.
-#[derive(Drop)]
+#[derive(Clone, Copy)]
 enum Both {
     Same(call_sheet::Reply),
     Differ,

@@ -1,6 +1,8 @@
 // Asks what the items of the pack on standard input say, five to a question: a call by its name, a name, a label, a file, and
 // eight bytes or none, a line number and the size of the output, both low byte first. An empty file stands for the file before
 // it, but for `check` it is an empty file. Prints the name as it stands and what the call answers. An empty call ends the pack.
+#![tactic(auto)]
+
 mod lines;
 mod rooms;
 

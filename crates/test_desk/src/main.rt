@@ -1,4 +1,6 @@
 // Runs the desk on its data, task by task, and prints back what is there then.
+#![tactic(auto)]
+
 ghost use Rattle.std.specs.Prelude.{◌≤◌};
 
 use desk_files::Task;

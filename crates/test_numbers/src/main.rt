@@ -1,4 +1,6 @@
 // One row of each kind of text, from literal values, and the lines of the 1/3 octave bands as many at a time as fit.
+#![tactic(auto)]
+
 ghost use Rattle.std.specs.Prelude.{[], ◌∷◌, ◌≤◌, length, drop};
 ghost use Rattle.text.specs.Text.{Wrote};
 ghost use Rattle.paging.specs.Fit.{TriedTo, Filled};

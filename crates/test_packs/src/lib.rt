@@ -1,5 +1,7 @@
 // Packs of test data on standard input: items one after the other, each three bytes of its length n, low byte first, and n
 // bytes.
+#![tactic(auto)]
+
 ghost use Rattle.std.specs.Prelude.{◌≡◌, ◌<◌, ◌≤◌, length};
 
 use libc::STDIN_FILENO;

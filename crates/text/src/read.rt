@@ -2,14 +2,14 @@
 ghost use Rattle.std.specs.Prelude.{true, false, ◌≡◌};
 ghost use Rattle.text.specs.Text.{before_null};
 
-use bytes::scan::find;
-
 // The part before the first null; all of it where there is none.
 pub fn before_null(bytes: &[u8]) -> &[u8]
     ensures { result.now ≡ before_null bytes.now }
 {
-    let end = find(bytes, 0, bytes.len(), 0);
-    &bytes[0..end]
+    match bytes.iter().position(|b| *b == 0) {
+        Some(end) => &bytes[0..end],
+        None => bytes,
+    }
 }
 
 // Whether two slices have the same bytes.

@@ -7,7 +7,7 @@ use text::decimal::{put_digit, put_short};
 use text::put::put_byte;
 
 // Hundredths of a hertz.
-#[derive(Drop)]
+#[derive(Clone, Copy)]
 pub struct Centihertz(pub u32);
 
 // A point and the digits of f hundredths, without zeros at the end; nothing for none.

@@ -7,7 +7,7 @@ use text::decimal::{put_digit, put_short};
 use text::put::put_byte;
 
 // Tenths of a decibel.
-#[derive(Drop)]
+#[derive(Clone, Copy)]
 pub struct Tenths(pub i32);
 
 // The number that a word stands for in two's complement.

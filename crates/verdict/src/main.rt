@@ -1,4 +1,6 @@
 // Prints the answer of Check to the file on standard input.
+#![tactic(auto)]
+
 use libc::{STDIN_FILENO, STDOUT_FILENO};
 use print_check::put_verdict;
 

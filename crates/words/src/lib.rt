@@ -1,9 +1,11 @@
 // The 16-bit words of a slice of bytes. Each function answers for any slice and any index.
+#![tactic(auto)]
+
 ghost use Rattle.std.specs.Prelude.{◌≡◌, length, get_or, take, drop};
 ghost use Rattle.words.specs.Words.{words_of, long_at, Holds};
 
 // A word of each of the three profiles.
-#[derive(Drop)]
+#[derive(Clone, Copy)]
 pub struct Three {
     pub first: u16,
     pub second: u16,
