@@ -1,0 +1,17 @@
+-- `decimal::put_digits` meets its contract. In the scratch array stand the last digits; those that are left, before them, are the number.
+use borrow.Author.Rules.{rules}
+use mathlib.Core.Path.{◌≡◌, refl, ◌∙◌}
+use mathlib.Core.List.{◌++◌}
+use Prim.Native.Nat.{◌≤◌, ◌<◌, ◌-◌, ◌^◌}
+use native.Mathlib.Omega.{arith}
+use lib.ListN.{length, drop, length-set, take}
+use Rattle.text.specs.Decimal.{digits, decimal}
+use Rattle.text.proofs.DecimalLaws.{start, turn, some, fewer, done}
+use Rattle.text.proofs.Writing.{rest_of}
+use Rattle.text.proofs.decimal.put_digits.Given as goal
+
+abbrev pub invariant-loop-n : goal.invariant-loop-n
+invariant-loop-n l = (l.at ≤ 19) × (l.n < 10 ^ l.at) × (length l.scratch ≡ 20) × (digits l.n l.n ++ drop l.at l.scratch ≡ decimal l.v)
+
+abbrev pub decreases-loop-n : goal.decreases-loop-n
+decreases-loop-n l = l.n

@@ -1,0 +1,9 @@
+use Rattle.words.specs.Words.{words_of}
+use Rattle.words.proofs.WordLaws.{long_from}
+use Rattle.words.proofs.long.Goals as goal
+
+pub returns : goal.returns
+returns c =
+    let field = c in
+    let args = field.args in
+    long_from (words_of args.bytes.now) _ args.i _ _ field.rest-field.ensures.words c.word.ensures c.word-2.ensures
