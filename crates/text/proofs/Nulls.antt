@@ -1,22 +1,23 @@
 -- A text up to its first null is the front of the bytes that it stands in.
-use mathlib.Core.Bool.{Bool, true, false, cond}
-use mathlib.Core.List.{List, [], ◌∷◌}
-use mathlib.Core.Path.{◌≡◌, refl, ap}
-use Prim.Native.Nat.{ℕ, suc}
+use Rattle.std.proofs.Common.{◌≡◌, ◌≢◌, ℕ, zero, suc, ◌<◌, Bool, true, false, cond, List, [], ◌∷◌, length, get_or, take, refl, sym, ap, arith}
 use lib.Dec.{eqb}
-use lib.ListN.{length, take}
-use Rattle.bytes.specs.Bytes.{index_after, index_of}
+use borrow.Author.Tests.{eq-eqb, ne_eqb}
 use Rattle.text.specs.Text.{before_null}
 
--- the place of the first null is where the text ends
-pub null_at : (bs : List ℕ) → index_of 0 bs ≡ length (before_null bs)
-unfolding index_of index_after before_null
-null_at [] = refl
-null_at (b ∷ bs) = go (eqb b 0) (null_at bs)
-  where
-    go : (t : Bool) → index_of 0 bs ≡ length (before_null bs) → index_after t (index_of 0 bs) ≡ length (cond t [] (b ∷ before_null bs))
-    go true e = refl
-    go false e = ap suc e
+-- no null stands before byte `end`
+abbrev pub NoNull : ℕ → List ℕ → Type 0
+NoNull end bs = (k : ℕ) → k < end → get_or bs k 0 ≢ 0
+
+pub null_here : (end : ℕ) (bs : List ℕ) → end < length bs → get_or bs end 0 ≡ 0 → NoNull end bs → take end bs ≡ before_null bs
+unfolding before_null
+null_here end [] h e f = absurd (omega (arith, h))
+null_here zero (b ∷ bs) h e f = sym (simp (eq-eqb b 0 e))
+null_here (suc end) (b ∷ bs) h e f = simp (ne_eqb b 0 (f 0 (omega arith)), null_here end bs (omega arith) e (λ k g. f (suc k) (omega arith)))
+
+pub null_nowhere : (bs : List ℕ) → NoNull (length bs) bs → bs ≡ before_null bs
+unfolding before_null
+null_nowhere [] f = refl
+null_nowhere (b ∷ bs) f = let e = null_nowhere bs (λ k g. f (suc k) (omega arith)) in simp (ne_eqb b 0 (f 0 (omega arith))) (ap (λ (l : List ℕ). b ∷ l) e)
 
 pub text_front : (bs : List ℕ) → take (length (before_null bs)) bs ≡ before_null bs
 unfolding before_null

@@ -6,10 +6,14 @@ ghost use Rattle.text.specs.Text.{before_null};
 pub fn before_null(bytes: &[u8]) -> &[u8]
     ensures { result.now ≡ before_null bytes.now }
 {
-    match bytes.iter().position(|b| *b == 0) {
-        Some(end) => &bytes[0..end],
-        None => bytes,
+    let mut end = 0;
+    while end < bytes.len() {
+        if bytes[end] == 0 {
+            return &bytes[0..end];
+        }
+        end += 1;
     }
+    bytes
 }
 
 // Whether two slices have the same bytes.

@@ -1,13 +1,9 @@
 -- `decimal::put_digits` meets its contract. In the scratch array stand the last digits; those that are left, before them, are the number.
-use borrow.Author.Rules.{rules}
-use mathlib.Core.Path.{◌≡◌, refl, ◌∙◌}
+use mathlib.Core.Path.{◌≡◌}
 use mathlib.Core.List.{◌++◌}
-use Prim.Native.Nat.{◌≤◌, ◌<◌, ◌-◌, ◌^◌}
-use native.Mathlib.Omega.{arith}
-use lib.ListN.{length, drop, length-set, take}
+use Prim.Native.Nat.{◌≤◌, ◌<◌, ◌^◌}
+use lib.ListN.{length, drop}
 use Rattle.text.specs.Decimal.{digits, decimal}
-use Rattle.text.proofs.DecimalLaws.{start, turn, some, fewer, done}
-use Rattle.text.proofs.Writing.{rest_of}
 use Rattle.text.proofs.decimal.put_digits.Given as goal
 
 abbrev pub invariant-loop-n : goal.invariant-loop-n
