@@ -1,4 +1,3 @@
-use borrow.Author.Rules.{rules}
 use borrow.Author.Tests.{lt-ltb, le-ltb}
 use mathlib.Core.Path.{refl}
 use native.Mathlib.Omega.{arith}
@@ -16,7 +15,13 @@ returns-then-count-length c =
     simp (← c.count.ensures, lt-ltb c.count.result args.len (omega arith))
 
 pub overflow_add-result : goal.overflow_add-result
-overflow_add-result c = omega (arith, add-t17 c)
+overflow_add-result c =
+    let known = c in
+    let args = known.args in
+    let ws = words_of args.left.now in
+    let b : raw_of (words_of c.front.result.now) < 2147483648 =
+    rw c.front.ensures.words (raw_below _ (below_take args.len ws (omega arith) (words_below args.left.now (λ i. omega (arith, known.type_inv.left i))))) in
+    omega arith
 
 pub overflow_add-result-2 : goal.overflow_add-result-2
 overflow_add-result-2 c =

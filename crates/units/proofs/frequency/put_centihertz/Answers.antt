@@ -1,4 +1,3 @@
-use borrow.Author.Rules.{rules}
 use Rattle.units.specs.Frequency.{centihertz}
 use Rattle.text.proofs.Writing.{◌then◌}
 use Rattle.units.proofs.frequency.put_centihertz.Goals as goal

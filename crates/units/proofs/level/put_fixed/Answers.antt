@@ -1,4 +1,3 @@
-use borrow.Author.Rules.{rules}
 use Rattle.units.specs.Level.{fixed}
 use Rattle.text.proofs.Writing.{◌then◌}
 use Rattle.units.proofs.level.put_fixed.Goals as goal
