@@ -14,7 +14,7 @@ use Rattle.file_read.specs.Read.{record_at, record_word, block_at, raw_at}
 use Rattle.file_read.proofs.Places.{none_at}
 use Rattle.file_rules.specs.Slim.{Slim, slim_by, word_in, sub_word_in}
 use Rattle.words.proofs.Choice.{cond_second, or_neither}
-use Rattle.file_rules.proofs.Reading.{plain_word, record_word}
+use Rattle.file_rules.proofs.Reading.{plain_word, record_word_lem}
 use Rattle.file_order.specs.declared.setup.Setup.{Setup}
 use Rattle.file_order.specs.Setup.{row_for, slim_of}
 use Rattle.file_tables.proofs.TableLaws.{Plain, Three}
@@ -52,7 +52,7 @@ module _ {ws : List ℕ} (few : length ws ≤ 32768) {last : Setup} {start : ℕ
     unfolding sub_word_in record_word slim_of
     found_record n m p off h k l (there t) =
         let q = m t.setup _ (own_id id o _ t.place_is) in
-        ap (λ (y : Slim). sub_word_in y p off) (slim_there t) ∙ record_word (row_for t.setup (get_or (block_at ws start) 0 0)) (block_at ws start) (raw_at ws start) p off (omega (arith, q.count)) k (omega (arith, q.least))
+        ap (λ (y : Slim). sub_word_in y p off) (slim_there t) ∙ record_word_lem (row_for t.setup (get_or (block_at ws start) 0 0)) (block_at ws start) (raw_at ws start) p off (omega (arith, q.count)) k (omega (arith, q.least))
     found_record n m p off h k l (nowhere a z) = rw (z, none_at ws start (omega arith), no_record p)
 
   -- the raw words
