@@ -1,0 +1,29 @@
+use borrow.Author.Rules.{rules}
+use native.Mathlib.Omega.{arith}
+use mathlib.Core.Path.{refl, ap, ◌∙◌}
+use mathlib.Core.List.{List, flatten}
+use Prim.Native.Nat.{ℕ, ◌+◌, ◌*◌, ◌≤◌}
+use lib.ListN.{get_or, drop}
+use Rattle.words.specs.Words.{words_of}
+use Rattle.file_rules.specs.Slim.{slim_records}
+use Rattle.file_slim.proofs.CutLaws.{record_room, record_next, records_end}
+use Rattle.file_slim.proofs.WordWriting.{Begun, begin, finished}
+use Rattle.file_slim.proofs.put_records.Goals as goal
+
+pub loop-left-init : goal.loop-left-init
+loop-left-init c = (omega (arith, c.requires.0.few), begin _ _)
+
+pub put_cut-n-requires : goal.put_cut-n-requires
+put_cut-n-requires c =
+    (c.requires.0.sub_one_byte, rw c.rest-part.ensures.words (record_room c.args.row.subs.least c.loop-left.left c.loop-left.o _ c.loop-left.invariant.1 c.requires.1 (omega arith)))
+
+pub loop-left-preserved : goal.loop-left-preserved
+loop-left-preserved c =
+    let cut = rw c.rest-part.ensures.words at c.put_cut-n.ensures in
+    let long = c.word.ensures ∙ ap (λ (x : List ℕ). get_or x 0 0) c.rest-part.ensures.words in
+    (omega (arith, c.word.type_inv), record_next c.args.row.subs.least c.loop-left.left c.loop-left.o _ c.loop-left.invariant.1 c.requires.1 (omega arith) _ (omega (arith, long)) cut)
+
+pub returns : goal.returns
+returns c =
+    let l = c.loop-left in
+    finished (rw (records_end _ l.left (drop l.o _) (omega arith)) at l.invariant.1)

@@ -1,0 +1,23 @@
+-- `put_doubled` meets its contract: the loop's state is `Pieces`, of the bytes.
+use borrow.Author.Rules.{rules}
+use Prim.Native.Nat.{ℕ, ◌-◌, ◌≤◌}
+use native.Mathlib.Nat.{le_refl}
+use native.Mathlib.Omega.{arith}
+use mathlib.Core.List.{List}
+use mathlib.Core.Path.{refl, ap}
+use lib.ListN.{length}
+use Rattle.text.specs.Text.{shown}
+use Rattle.text.proofs.Pieces.{Pieces, begin, next, ended}
+use Rattle.text.proofs.Writing.{text_is}
+use Rattle.sheet_head.specs.Head.{doubled_byte}
+use Rattle.sheet_head.proofs.HeadLaws.{doubled_shown}
+use Rattle.sheet_head.proofs.put_doubled.Given as goal
+
+abbrev put : ℕ → List ℕ
+put b = doubled_byte (shown b)
+
+abbrev pub invariant-loop-i : goal.invariant-loop-i
+invariant-loop-i l = (l.i ≤ length l.text) × Pieces put 2 l.text l.initial.out l.out l.at l.i
+
+abbrev pub decreases-loop-i : goal.decreases-loop-i
+decreases-loop-i l = length l.text - l.i
