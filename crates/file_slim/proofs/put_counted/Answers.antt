@@ -1,4 +1,3 @@
-use borrow.Author.Rules.{rules}
 use Rattle.file_rules.specs.Slim.{counted}
 use Rattle.file_slim.proofs.put_counted.Goals as goal
 

@@ -1,5 +1,4 @@
 -- `file_slim::put_cut` meets its contract: its first word, and then the words after it.
-use borrow.Author.Rules.{rules}
 use native.Mathlib.Omega.{arith}
 use mathlib.Core.List.{[], ◌∷◌}
 use Prim.Native.Nat.{◌-◌}

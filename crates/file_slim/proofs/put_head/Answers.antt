@@ -1,5 +1,4 @@
 -- `file_slim::put_head` meets its contract, by the kinds of rows.
-use borrow.Author.Rules.{rules}
 use native.Mathlib.Omega.{arith}
 use mathlib.Core.Path.{sym, ap, ◌∙◌}
 use Prim.Native.Nat.{ℕ}

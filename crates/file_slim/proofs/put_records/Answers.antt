@@ -1,13 +1,10 @@
-use borrow.Author.Rules.{rules}
 use native.Mathlib.Omega.{arith}
-use mathlib.Core.Path.{refl, ap, ◌∙◌}
-use mathlib.Core.List.{List, flatten}
-use Prim.Native.Nat.{ℕ, ◌+◌, ◌*◌, ◌≤◌}
+use mathlib.Core.Path.{ap, ◌∙◌}
+use mathlib.Core.List.{List}
+use Prim.Native.Nat.{ℕ}
 use lib.ListN.{get_or, drop}
-use Rattle.words.specs.Words.{words_of}
-use Rattle.file_rules.specs.Slim.{slim_records}
 use Rattle.file_slim.proofs.CutLaws.{record_room, record_next, records_end}
-use Rattle.file_slim.proofs.WordWriting.{Begun, begin, finished}
+use Rattle.file_slim.proofs.WordWriting.{begin, finished}
 use Rattle.file_slim.proofs.put_records.Goals as goal
 
 pub loop-left-init : goal.loop-left-init

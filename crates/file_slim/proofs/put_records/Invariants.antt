@@ -1,14 +1,10 @@
 -- `file_slim::put_records` meets its contract: the loop's state is `Begun`, with the sub-blocks that are left to come.
-use borrow.Author.Rules.{rules}
-use native.Mathlib.Omega.{arith}
-use mathlib.Core.Path.{refl, ap, ◌∙◌}
-use mathlib.Core.List.{List, flatten}
-use Prim.Native.Nat.{ℕ, ◌+◌, ◌*◌, ◌≤◌}
-use lib.ListN.{get_or, drop}
+use mathlib.Core.List.{flatten}
+use Prim.Native.Nat.{◌+◌, ◌*◌, ◌≤◌}
+use lib.ListN.{drop}
 use Rattle.words.specs.Words.{words_of}
 use Rattle.file_rules.specs.Slim.{slim_records}
-use Rattle.file_slim.proofs.CutLaws.{record_room, record_next, records_end}
-use Rattle.file_slim.proofs.WordWriting.{Begun, begin, finished}
+use Rattle.file_slim.proofs.WordWriting.{Begun}
 use Rattle.file_slim.proofs.put_records.Given as goal
 
 abbrev pub invariant-loop-left : goal.invariant-loop-left

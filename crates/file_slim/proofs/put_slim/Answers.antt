@@ -1,5 +1,4 @@
 -- `file_slim::put_slim` meets its contract: what stands before the sub-blocks, and then these.
-use borrow.Author.Rules.{rules}
 use native.Mathlib.Omega.{arith}
 use mathlib.Core.List.{flatten}
 use lib.ListN.{drop}

@@ -1,4 +1,3 @@
-use borrow.Author.Rules.{rules}
 use Rattle.words.specs.Words.{bytes_of}
 use Rattle.text.proofs.Writing.{◌then◌}
 use Rattle.file_slim.proofs.put_word.Goals as goal

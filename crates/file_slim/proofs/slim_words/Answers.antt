@@ -1,10 +1,9 @@
 -- `file_slim::slim_words` meets its contract, by the three kinds of rows.
-use borrow.Author.Rules.{rules}
 use native.Mathlib.Omega.{arith}
 use mathlib.Core.Path.{sym, ◌∙◌}
 use Rattle.words.specs.Words.{words_of}
 use Rattle.file_slim.proofs.TextLaws.{is_text_lem}
-use Rattle.file_slim.proofs.CutLaws.{least_byte, exact_words, text_words, plain_words, slim_short}
+use Rattle.file_slim.proofs.CutLaws.{exact_words, text_words, plain_words}
 use Rattle.file_slim.proofs.slim_words.Goals as goal
 
 pub returns-then-row : goal.returns-then-row
