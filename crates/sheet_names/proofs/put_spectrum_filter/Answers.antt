@@ -1,0 +1,13 @@
+-- `put_spectrum_filter` meets its contract: the model picks the table.
+use borrow.Author.Rules.{rules}
+use borrow.Author.Tests.{eq-eqb, ne_eqb}
+use Rattle.sheet_names.specs.Names.{spectrum_filters}
+use Rattle.sheet_names.proofs.put_spectrum_filter.Goals as goal
+
+pub returns-then-model-eq953 : goal.returns-then-model-eq953
+unfolding spectrum_filters
+returns-then-model-eq953 c = let a = c in rw (eq-eqb _ 953 a.if-model-eq953.true) a.put_profile_filter.ensures
+
+pub returns : goal.returns
+unfolding spectrum_filters
+returns c = let a = c in rw (ne_eqb _ 953 a.if-model-eq953.false) a.put_octave_filter.ensures
