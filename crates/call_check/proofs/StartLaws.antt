@@ -29,16 +29,16 @@ unfolding numbers_from
 starts_back at = refl
 
 module _ (place : ℕ) (small : place < place_count) where
-  start_of : (at : List ℕ) → start_at place (starts_of at) ≡ get_or at place absent
-  start_of at =
+  start_of_lem : (at : List ℕ) → start_at place (starts_of at) ≡ get_or at place absent
+  start_of_lem at =
       ap (λ (l : List ℕ). get_or l place absent) (starts_back at) ∙ number_there (λ i. get_or at i absent) 0 place_count place absent small ∙ ap (λ (i : ℕ). get_or at i absent) (zero-add place)
 
   pub none_noted : start_at place (starts_of []) ≡ absent
-  none_noted = start_of []
+  none_noted = start_of_lem []
 
   pub start_noted : (s : Starts) (id at : ℕ) → start_at place (noted s id at) ≡ cond (eqb (place_of id) place) at (start_at place s)
   unfolding noted
-  start_noted s id at = start_of (set (starts_in s) (place_of id) at) ∙ go (eqb (place_of id) place) refl
+  start_noted s id at = start_of_lem (set (starts_in s) (place_of id) at) ∙ go (eqb (place_of id) place) refl
     where
       go : (t : Bool) → eqb (place_of id) place ≡ t → get_or (set (starts_in s) (place_of id) at) place absent ≡ cond t at (start_at place s)
       go true q = rw (eqb-true (place_of id) place q) (get_or-set_same (starts_in s) place at absent small)

@@ -1,5 +1,5 @@
 -- What a file holds: its listed blocks in slim form, and where each stands.
-use Rattle.std.specs.Prelude.{cond, List, [], ◌∷◌, ◌++◌, ℕ, ◌+◌, eqb, get_or}
+use Rattle.std.specs.Prelude.{cond, List, [], ◌∷◌, ◌++◌, ℕ, eqb, get_or}
 use Rattle.words.specs.Words.{low, words_of}
 use Rattle.file_walk.specs.Walk.{Part, parts_of, walked}
 use Rattle.file_rules.specs.Slim.{Slim}

@@ -1,7 +1,6 @@
 -- `check::check` answers the verdict.
 use mathlib.Core.Path.{sym, ap, ◌∙◌}
 use Rattle.call_check.specs.Check.{outline_of, answered, verdict, values, Checked}
-use borrow.Author.Rules.{rules}
 use Rattle.call_check.proofs.check.check.Goals as goal
 
 pub returns-in-Passed : goal.returns-in-Passed

@@ -4,7 +4,6 @@ use native.Mathlib.Omega.{arith}
 use mathlib.Core.Path.{◌∙◌}
 use lib.ListN.{length}
 use Rattle.call_check.specs.Judge.{misfit, surveyed}
-use borrow.Author.Rules.{rules}
 use Rattle.call_check.proofs.judge.survey.Goals as goal
 
 pub returns-then-file-eq1 : goal.returns-then-file-eq1

@@ -1,6 +1,5 @@
 -- `judge::State::entered` is `entered_by`.
 use Rattle.call_check.specs.Judge.{entered, entered_by}
-use borrow.Author.Rules.{rules}
 use Rattle.call_check.proofs.judge.State.entered.Goals as goal
 
 pub returns : goal.returns

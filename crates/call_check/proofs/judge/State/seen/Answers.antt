@@ -25,7 +25,7 @@ returns-then-not-has c =
     let e = c.row_for-row.ensures ∙ ap (row_for a.self.setup) c.word-header.ensures in
     let key = c.key_of.ensures ∙ ap key_of c.word-header.ensures in
     let d = sym (c.has.ensures ∙ ap (is_due a.self.due) key) in
-    seen_order c.row_for-row.result a.self a.at b e (not-false _ c.if-not-row.false) (d ∙ not-true _ c.if-not-has.true)
+    seen_order c.row_for-row.result a.self a.at b e (not-false _ c.if-not-row.false) (d ∙ c.if-not-has.true)
 
 pub keeps-requires : goal.keeps-requires
 keeps-requires c =
@@ -43,7 +43,7 @@ returns-in-Good c =
     let d = sym (c.has.ensures ∙ ap (is_due a.self.due) key) in
     let good = sym c.keeps.ensures ∙ c.in-Good.is in
     ap Passed c.entered.ensures
-    ∙ seen_good c.row_for-row.result a.self a.at b e (not-false _ c.if-not-row.false) (d ∙ not-false _ c.if-not-has.false) good
+    ∙ seen_good c.row_for-row.result a.self a.at b e (not-false _ c.if-not-row.false) (d ∙ c.if-not-has.false) good
 
 pub returns-in-Refused : goal.returns-in-Refused
 returns-in-Refused c =
@@ -53,4 +53,4 @@ returns-in-Refused c =
     let key = c.key_of.ensures ∙ ap key_of c.word-header.ensures in
     let d = sym (c.has.ensures ∙ ap (is_due a.self.due) key) in
     let bad = sym c.keeps.ensures ∙ c.in-Refused.is in
-    seen_bad c.row_for-row.result a.self a.at b e (not-false _ c.if-not-row.false) (d ∙ not-false _ c.if-not-has.false) bad
+    seen_bad c.row_for-row.result a.self a.at b e (not-false _ c.if-not-row.false) (d ∙ c.if-not-has.false) bad

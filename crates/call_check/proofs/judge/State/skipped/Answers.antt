@@ -1,6 +1,5 @@
 -- `judge::State::skipped` is `skipped`.
 use Rattle.call_check.specs.Judge.{skipped}
-use borrow.Author.Rules.{rules}
 use Rattle.call_check.proofs.judge.State.skipped.Goals as goal
 
 pub returns : goal.returns
