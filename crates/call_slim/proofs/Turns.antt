@@ -20,7 +20,7 @@ use Rattle.file_order.specs.declared.setup.Setup.{Setup}
 use Rattle.call_check.specs.Slims.{known_from}
 use Rattle.file_read.specs.Read.{part_at}
 use Rattle.call_check.proofs.FoundWords.{accepted_few}
-use Rattle.call_check.proofs.Onward.{passes, Onward, onward_over, onward_block}
+use Rattle.call_check.proofs.Onward.{Onward, onward_over, onward_block}
 use Rattle.call_slim.proofs.Cuttable.{inside}
 use Rattle.call_slim.proofs.CopyLaws.{words_split, words_end}
 use Rattle.call_slim.specs.Copy.{slim_words}
