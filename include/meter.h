@@ -1,5 +1,5 @@
 /*
- * The four calls of the converter, for C and C++ programs on x86-64 (target/staticlib/libmeter.a, by `rt staticlib meter`).
+ * The four calls of the converter, for C and C++ programs on x86-64 (crates/meter/out/libmeter.a, by `rt lib` in crates/meter).
  *
  * `refusal` is 0 for success, or one of these numbers; `at` is the position, in words of the file:
  *
@@ -23,9 +23,9 @@
  * A caller gets: no state is kept and nothing is allocated, so calls may run side by side; a refusal writes no byte of the output, a
  * success only the bytes it counts.
  *
- * Stack: 8,192 bytes are enough for a call. This is measured and not proved (x86-64, 2026-11-16, over 26,744 files): meter_check used
- * 1,520 bytes at most, meter_title 1,552, meter_sheet 3,296, meter_slim 2,096; with lazy binding, where the dynamic linker looks up
- * memcpy and memset during the first calls, 6,248.
+ * Stack: 8,192 bytes are enough for a call. This is measured and not proved (x86-64, 2026-11-16, over 26,744 files, with the older kit
+ * rattle-kit-5b-plain; not measured again): meter_check used 1,520 bytes at most, meter_title 1,552, meter_sheet 3,296, meter_slim
+ * 2,096; with lazy binding, where the dynamic linker looks up memcpy and memset during the first calls, 6,248.
  */
 #ifndef METER_H
 #define METER_H
@@ -105,13 +105,13 @@ meter_title_reply meter_title(const uint8_t *file, size_t file_len, const uint8_
  * until one is finished. A head line whose text holds a comma or a double quote stands between double quotes, those within it doubled,
  * as RFC 4180 has it; such a line has 1,023 bytes at most.
  *
- * An answer that is neither refused nor finished has written one line at least (proved: `goes-on`), and a sheet has 200,000 lines at
+ * An answer that is neither refused nor finished has written one line at least (proved: `goes_on`), and a sheet has 200,000 lines at
  * most, so asking again from n + lines ends.
  */
 meter_sheet_reply meter_sheet(const uint8_t *file, size_t file_len, const uint8_t *label, size_t label_len, uint32_t n, uint8_t *out, size_t out_len);
 
 /*
- * Writes the slim copy. It is never longer than its file (proved: `copy-no-longer`), so an output of file_len bytes is always enough,
+ * Writes the slim copy. It is never longer than its file (proved: `copy_no_longer`), so an output of file_len bytes is always enough,
  * and one of METER_FILE_MAX bytes is enough for every file.
  */
 meter_slim_reply meter_slim(const uint8_t *file, size_t file_len, uint8_t *out, size_t out_len);
