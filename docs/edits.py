@@ -1,16 +1,16 @@
-"""Writes docs/EDITS.md: each must-fail edit, what it changes, and the first error that it got in the last run of the gate.
+"""Writes docs/EDITS.md: each must-fail edit, what it changes, and the first error that it got.
 
-Run it from the repository's root after the gate: python3 docs/edits.py
+Run it from the repository's root over what the edits' run printed: rt must-fail > edits.log 2>&1; python3 docs/edits.py edits.log
 """
 
 import re
+import sys
 from collections import Counter
 from pathlib import Path
 
 ROOT = Path(__file__).resolve().parent.parent
-LOGS = ROOT / 'target' / 'must-fail'
 KINDS = {'src': 'code', 'specs': 'definition', 'proofs': 'law'}
-MOST = 260
+FALSE = 'the facts known there allow values'
 
 
 def fields(edit):
@@ -20,59 +20,34 @@ def fields(edit):
     return lines[0].lstrip('# '), told['file'], told['old'], told['new']
 
 
-def first_error(log):
-    """The paragraph of the first error: its line and the indented ones after it."""
-    lines = log.read_text().splitlines()
-    at = next(i for i, line in enumerate(lines) if re.match(r'\S+: error: |note: \S+:\d+:\d+: ', line))
-    more = []
-    for line in lines[at + 1:]:
-        if not line.startswith('  '):
-            break
-        more.append(line.strip())
-    return lines[at], more
+def refusals(logs):
+    """What `rt must-fail` said of each edit that it saw refused, by crate and name; a later line counts."""
+    said = {}
+    for log in logs:
+        for line in Path(log).read_text().splitlines():
+            found = re.match(r'(?:rt: )?must-fail (\w+)/(\S+)\.edit: refused, as it must be(?: \(.*?\))?: (.*)', line)
+            if found:
+                said[found[1], found[2]] = found[3]
+    return said
 
 
-def plain(text):
-    """Without the names of modules and the steps into a proof's context."""
-    text = re.sub(r'(?:[A-Za-z][\w·]*\.)+(?=[^\s.]*[A-Za-z_∷≡+*/])', '', text)
-    text = re.sub(r'(?: ?\.before(?![\w-]))+', ' ..', text).replace('List.[]', '[]').replace('Nat.ℕ', 'ℕ')
-    return re.sub(r'\s+', ' ', text)
-
-
-def shorter(says):
-    """What the checker says of the fact, without its advice."""
-    fails = re.search(r'the goal fails, at (`[^`]*` = \d+)', says)
-    if fails:
-        return f'the goal does not follow; it fails at {fails[1]}'
-    if 'what it leaves must be a path whose two ends are equal' in says:
-        return 'the two ends of what is left to show are not equal'
-    unproved = re.search(r'it is not proved that .*', says)
-    if unproved:
-        return unproved[0]
-    if says.startswith('expected type') or 'bytes of the two types are identical' in says:
-        return 'the two types are not the same (too long to be shown where)'
-    return re.split(r"(?<=\(found\)) |(?<=\(the expected type's\)) ", says)[0]
-
-
-def told(log):
-    """Where the first error stands and what it says, computed where the checker computed it."""
-    line, more = first_error(log)
+def told(line):
+    """Where the first error stands, of which goal or law it is, and what it says as far as `rt` prints it."""
     place = re.search(r'((?:src|specs|proofs)/[^:]*):\d+', line)[1]
-    name = re.search(r'(?:error|\d): `([^`]*)`', line)
-    says = line.split('error: ', 1)[-1]
-    whole = ' '.join([says, *more])
-    computed = re.search(r'computed as far as (?:they go|it goes), (.*?)(?: expected type `| but this has|$)', whole)
-    says = shorter(plain(computed[1] if computed else re.sub(r'^`[^`]*`: ', '', whole)))
-    if len(says) > MOST:
-        says = says[:MOST].rsplit(' ', 1)[0] + ' ..'
-    if says.count('`') % 2:
-        says += '`'
-    return place, name[1] if name else '', says
+    if 'it is not proved that' in line:
+        says = re.search(r'it is not proved that [^(;]*', line)[0].strip()
+        goal = re.search(r'\(`([^`]*)`?', line)
+        return place, goal[1] if goal else '', says + (', and ' + FALSE + ' at which it is false' if FALSE in line else '')
+    name = re.search(r'error: `([^`]*)`: ', line)
+    says = re.sub(r'\s+', ' ', line.split('error: ', 1)[-1])
+    says = re.sub(r'^`[^`]*`: ', '', says).rsplit(' ', 1)[0] + ' ..'
+    return place, name[1] if name else '', says + ('`' if says.count('`') % 2 else '')
 
 
 def main():
-    crates = [line.split(':')[0] for line in (ROOT / 'crates.txt').read_text().splitlines() if re.match(r'\w+:', line)]
-    parts, kinds = [], Counter()
+    said = refusals(sys.argv[1:])
+    crates = [line.split(':')[0].split()[0] for line in (ROOT / 'crates.txt').read_text().splitlines() if re.match(r'\w+.*:', line)]
+    parts, kinds, missing = [], Counter(), []
     for crate in crates:
         edits = sorted((ROOT / 'crates' / crate / 'must-fail').glob('*.edit'))
         if not edits:
@@ -82,15 +57,21 @@ def main():
             title, file, old, new = fields(edit)
             kind = KINDS[file.split('/')[0]]
             kinds[kind] += 1
-            place, name, says = told(LOGS / crate / edit.stem / '.log')
-            parts += [f'- **{edit.stem}** ({kind}, `{file}`): {title}.', f'  `{old}` becomes `{new}`.', f'  {place}, `{name}`: {says}']
+            parts += [f'- **{edit.stem}** ({kind}, `{file}`): {title}.', f'  `{old}` becomes `{new}`.']
+            if (crate, edit.stem) in said:
+                place, name, says = told(said[crate, edit.stem])
+                parts.append(f'  {place}, `{name}`: {says}')
+            else:
+                missing.append(f'{crate}/{edit.stem}')
         parts.append('')
     total = sum(kinds.values())
-    head = ['# Must-fail edits', '', 'Made by `python3 docs/edits.py` from the logs of the gate; do not edit.', '',
+    head = ['# Must-fail edits', '', 'Made by `python3 docs/edits.py` from what `rt must-fail` prints; do not edit.', '',
             f'{total} edits, each of one line, that the gate demands to be refused: {kinds["code"]} change the code and make a wrong',
             f'program of it, {kinds["definition"]} change a definition, and {kinds["law"]} the statement of a law. After each stands the first error that it got,',
-            'without the names of modules; "expected" and "found" are the two sides that no longer agree.', '']
+            'as far as `rt must-fail` prints it, and the goal or the law that it is of; "expected" and "found" are two sides that no longer agree.', '']
     (ROOT / 'docs' / 'EDITS.md').write_text('\n'.join(head + parts).rstrip() + '\n')
+    for edit in missing:
+        print(f'no refusal was read of {edit}')
 
 
 if __name__ == '__main__':
