@@ -31,9 +31,9 @@ module _ {n : ℕ} {b b' : List ℕ} (a : Agree n b b') where
   among_agree k e = let p = and_both (ltb 0 k) _ e in a.word k (ltb-true _ _ p.0) (ltb-true _ _ p.1)
 
   -- whether a rule is in force, by word 3
-  in_force : (r : Rule) → (eqb r.from 0 || ltb 3 n) ≡ true → in_force r (get_or b' 3 0) ≡ in_force r (get_or b 3 0)
+  in_force_agrees : (r : Rule) → (eqb r.from 0 || ltb 3 n) ≡ true → in_force r (get_or b' 3 0) ≡ in_force r (get_or b 3 0)
   unfolding in_force
-  in_force r e = go (eqb r.from 0) refl e
+  in_force_agrees r e = go (eqb r.from 0) refl e
     where
       go : (t : Bool) → eqb r.from 0 ≡ t → (t || ltb 3 n) ≡ true
           → (t || (leb r.from (get_or b' 3 0) && leb (get_or b' 3 0) r.upto)) ≡ (t || (leb r.from (get_or b 3 0) && leb (get_or b 3 0) r.upto))
@@ -56,7 +56,7 @@ module _ {n : ℕ} {b b' : List ℕ} (a : Agree n b b') where
       let q = and_both (among n r.off) _ p.0 in
       let l = and_both (looks n r.kind) _ q.1 in
       let f = and_both (eqb r.from 0 || ltb 3 n) _ l.1 in
-      rw (in_force r f.0, among_agree r.off q.0, allows_agree r.kind l.0 (get_or b r.off 0), ruled_agree rs p.1)
+      rw (in_force_agrees r f.0, among_agree r.off q.0, allows_agree r.kind l.0 (get_or b r.off 0), ruled_agree rs p.1)
 
   -- how many words there are at least
   more_agree : (m : More) → counts n m ≡ true → more_of m b' ≡ more_of m b

@@ -1,7 +1,7 @@
 -- What a block that has grown has in common with what it was, for any kind of growth.
 use mathlib.Core.Bool.{true, false}
 use mathlib.Core.Path.{◌≡◌, refl, sym, ◌∙◌}
-use Prim.Native.Nat.{suc, ◌-◌}
+use Prim.Native.Nat.{suc}
 use lib.ListN.{length, get_or}
 use Rattle.words.specs.Words.{low}
 use Rattle.file_walk.specs.Walk.{Part, Whole}

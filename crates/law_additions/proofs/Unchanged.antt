@@ -47,13 +47,13 @@ module _ {ps ps' : List Part} where
 
 -- a block that is not listed, put there or as it was
 module _ (d : Due) (s : Setup) (p : Part) (l : (kind_of (low (word_of p))).listed ≡ false) (first : Later d) where
-  passed_over : (ps : List Part) → takes d s (p ∷ ps) ≡ takes d s ps
+  is_passed_over : (ps : List Part) → takes d s (p ∷ ps) ≡ takes d s ps
   unfolding takes passed_over
-  passed_over ps = rw (l, first.no_header)
+  is_passed_over ps = rw (l, first.no_header)
 
   unlisted_put : {ps ps' : List Part} → Whole p → Unchanged d s ps ps' → Unchanged d s ps (p ∷ ps')
   unfolding slims slim_part known_from
-  unlisted_put {ps' = ps'} w u = record { taken = passed_over ps' ∙ u.taken; held = rw l u.held; wholes = (w, u.wholes) }
+  unlisted_put {ps' = ps'} w u = record { taken = is_passed_over ps' ∙ u.taken; held = rw l u.held; wholes = (w, u.wholes) }
 
   unlisted_kept : {ps ps' : List Part} → Unchanged d s ps (p ∷ ps') → Unchanged d s (p ∷ ps) (p ∷ ps')
   unfolding slims slim_part known_from
@@ -77,7 +77,7 @@ adds_unchanged (block {p} {p'} {ps} {ps'} g a) w d s first e = go (kind_of (low 
     go true l ih = listed_grown d s g l e w.0 ih
     go false l ih =
         rw (unlisted_as_is g l)
-        (unlisted_kept d s p l first (unlisted_put d s p l first w.0 (ih d s first (sym (passed_over d s p l first ps) ∙ e))))
+        (unlisted_kept d s p l first (unlisted_put d s p l first w.0 (ih d s first (sym (is_passed_over d s p l first ps) ∙ e))))
 
 -- ---- files with additions
 
