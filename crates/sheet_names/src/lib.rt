@@ -9,6 +9,7 @@ ghost use Rattle.sheet_names.specs.Names.{profile_filters, buffer_codes, spectru
 use text::decimal::put_short;
 use text::put::{put_byte, put_bytes};
 
+#[tactic(auto, unfolding(text::specs::Text::named, crate::specs::Names::profile_filters))]
 fn put_profile_filter(out: &mut [u8], code: u16) -> usize
     requires { 3 ≤ length out.old }
     ensures { Wrote (named profile_filters code) 3 out.old out.new result }
@@ -23,6 +24,7 @@ fn put_profile_filter(out: &mut [u8], code: u16) -> usize
     }
 }
 
+#[tactic(auto, unfolding(text::specs::Text::named, crate::specs::Names::buffer_codes))]
 fn put_buffer_code(out: &mut [u8], code: u16) -> usize
     requires { 4 ≤ length out.old }
     ensures { Wrote (named buffer_codes code) 4 out.old out.new result }
@@ -37,6 +39,7 @@ fn put_buffer_code(out: &mut [u8], code: u16) -> usize
 }
 
 // The 945's names of spectrum filters.
+#[tactic(auto, unfolding(text::specs::Text::named, crate::specs::Names::spectrum_filters))]
 fn put_octave_filter(out: &mut [u8], code: u16) -> usize
     requires { 3 ≤ length out.old }
     ensures { Wrote (named (spectrum_filters 945) code) 3 out.old out.new result }

@@ -179,6 +179,7 @@ const RESULTS: [Entry; 21] = [
     },
 ];
 
+#[tactic(auto, unfolding(crate::specs::Results::name_of))]
 pub fn put_result_name(out: &mut [u8], name: ResultName) -> usize
     requires { 4 ≤ length out.old }
     ensures { Wrote (name_of name) 4 out.old out.new result }
@@ -201,6 +202,7 @@ pub fn put_result_name(out: &mut [u8], name: ResultName) -> usize
     }
 }
 
+#[tactic(auto, unfolding(crate::specs::Results::unit_of))]
 pub fn put_unit(out: &mut [u8], unit: UnitName) -> usize
     requires { 2 ≤ length out.old }
     ensures { Wrote (unit_of unit) 2 out.old out.new result }
@@ -213,6 +215,7 @@ pub fn put_unit(out: &mut [u8], unit: UnitName) -> usize
 }
 
 // The table whole, so that a caller takes it once for all its rows.
+#[tactic(auto, unfolding(crate::specs::Results::results945, crate::specs::Results::results953, crate::specs::Results::dose953))]
 pub fn all_results() -> [Entry; 21]
     ensures { result ≡ results945 ++ (results953 ++ dose953) }
 {
@@ -227,6 +230,7 @@ pub fn first_result(model: u16) -> usize
 }
 
 // How many of them a sheet shows.
+#[tactic(auto, unfolding(crate::specs::Results::results, crate::specs::Results::results945, crate::specs::Results::results953, crate::specs::Results::dose953))]
 pub fn result_count(model: u16, function: u16) -> usize
     ensures { result ≡ length (results model function) }
 {

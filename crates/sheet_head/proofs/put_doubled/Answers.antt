@@ -1,12 +1,11 @@
 use borrow.Author.Rules.{rules}
-use Prim.Native.Nat.{ℕ, ◌-◌, ◌≤◌}
+use Prim.Native.Nat.{ℕ}
 use native.Mathlib.Nat.{le_refl}
 use native.Mathlib.Omega.{arith}
 use mathlib.Core.List.{List}
 use mathlib.Core.Path.{refl, ap}
-use lib.ListN.{length}
 use Rattle.text.specs.Text.{shown}
-use Rattle.text.proofs.Pieces.{Pieces, begin, next, ended}
+use Rattle.text.proofs.Pieces.{begin, next, ended}
 use Rattle.text.proofs.Writing.{text_is}
 use Rattle.sheet_head.specs.Head.{doubled_byte}
 use Rattle.sheet_head.proofs.HeadLaws.{doubled_shown}

@@ -1,16 +1,10 @@
 -- `put_doubled` meets its contract: the loop's state is `Pieces`, of the bytes.
-use borrow.Author.Rules.{rules}
 use Prim.Native.Nat.{ℕ, ◌-◌, ◌≤◌}
-use native.Mathlib.Nat.{le_refl}
-use native.Mathlib.Omega.{arith}
 use mathlib.Core.List.{List}
-use mathlib.Core.Path.{refl, ap}
 use lib.ListN.{length}
 use Rattle.text.specs.Text.{shown}
-use Rattle.text.proofs.Pieces.{Pieces, begin, next, ended}
-use Rattle.text.proofs.Writing.{text_is}
+use Rattle.text.proofs.Pieces.{Pieces}
 use Rattle.sheet_head.specs.Head.{doubled_byte}
-use Rattle.sheet_head.proofs.HeadLaws.{doubled_shown}
 use Rattle.sheet_head.proofs.put_doubled.Given as goal
 
 abbrev put : ℕ → List ℕ

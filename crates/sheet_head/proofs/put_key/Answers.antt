@@ -1,4 +1,3 @@
-use borrow.Author.Rules.{rules}
 use Rattle.text.proofs.Writing.{◌then◌}
 use Rattle.sheet_head.proofs.put_key.Goals as goal
 

@@ -1,4 +1,3 @@
-use borrow.Author.Rules.{rules}
 use Rattle.text.proofs.Writing.{◌then◌}
 use Rattle.sheet_names.proofs.put_buffer_column.Goals as goal
 

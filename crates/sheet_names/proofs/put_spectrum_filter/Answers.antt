@@ -1,5 +1,4 @@
 -- `put_spectrum_filter` meets its contract: the model picks the table.
-use borrow.Author.Rules.{rules}
 use borrow.Author.Tests.{eq-eqb, ne_eqb}
 use Rattle.sheet_names.specs.Names.{spectrum_filters}
 use Rattle.sheet_names.proofs.put_spectrum_filter.Goals as goal
