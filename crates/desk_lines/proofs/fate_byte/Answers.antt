@@ -1,5 +1,4 @@
 -- `fate_byte` meets its contract: each arm answers its case.
-use borrow.Author.Rules.{rules}
 use Rattle.desk_lines.specs.Notices.{fate_byte}
 use Rattle.desk_lines.proofs.fate_byte.Goals as goal
 

@@ -1,5 +1,4 @@
 -- `fate_of` meets its contract: each arm answers its case.
-use borrow.Author.Rules.{rules}
 use Rattle.desk_lines.specs.Notices.{fate_of}
 use Rattle.desk_lines.proofs.fate_of.Goals as goal
 

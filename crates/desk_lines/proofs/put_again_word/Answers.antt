@@ -16,4 +16,4 @@ returns-in-2 c = let a = c in keyed again_words 2 a.args.fate (omega arith) a.pu
 
 pub returns-in_default : goal.returns-in_default
 unfolding again_words
-returns-in_default c = unkeyed again_words c.args.fate _ (search rules).rest
+returns-in_default c = unkeyed again_words c.args.fate _ (search rules)

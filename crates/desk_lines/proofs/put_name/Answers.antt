@@ -1,11 +1,6 @@
 use borrow.Author.Rules.{rules}
-use mathlib.Core.Path.{◌≡◌, refl}
-use mathlib.Core.List.{map}
-use Prim.Native.Nat.{◌≤◌, ◌-◌}
 use native.Mathlib.Omega.{arith}
-use lib.ListN.{length, take}
-use Rattle.text.specs.Text.{Wrote}
-use Rattle.text.proofs.Writing.{nothing, push, text_is, map_more, map_all, at_most}
+use Rattle.text.proofs.Writing.{push, text_is, map_more, map_all, at_most}
 use Rattle.desk_lines.specs.Notices.{printed, printed_name}
 use Rattle.desk_lines.proofs.put_name.Goals as goal
 

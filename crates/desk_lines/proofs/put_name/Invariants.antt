@@ -1,13 +1,10 @@
 -- `put_name` meets its contract: after `i` turns the first `i` bytes of the printed name are written.
-use borrow.Author.Rules.{rules}
-use mathlib.Core.Path.{◌≡◌, refl}
+use mathlib.Core.Path.{◌≡◌}
 use mathlib.Core.List.{map}
 use Prim.Native.Nat.{◌≤◌, ◌-◌}
-use native.Mathlib.Omega.{arith}
 use lib.ListN.{length, take}
 use Rattle.text.specs.Text.{Wrote}
-use Rattle.text.proofs.Writing.{nothing, push, text_is, map_more, map_all, at_most}
-use Rattle.desk_lines.specs.Notices.{printed, printed_name}
+use Rattle.desk_lines.specs.Notices.{printed}
 use Rattle.desk_lines.proofs.put_name.Given as goal
 
 abbrev pub invariant-loop-i : goal.invariant-loop-i

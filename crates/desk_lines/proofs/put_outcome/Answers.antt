@@ -1,5 +1,4 @@
 -- `put_outcome` meets its contract: each arm writes its case of `outcome`.
-use borrow.Author.Rules.{rules}
 use native.Mathlib.Omega.{arith}
 use Rattle.text.proofs.NameLaws.{told}
 use Rattle.desk_lines.specs.Notices.{outcome}

@@ -1,5 +1,4 @@
 -- `put_taken` meets its contract: each arm writes its case of `taken`.
-use borrow.Author.Rules.{rules}
 use native.Mathlib.Omega.{arith}
 use Rattle.text.proofs.NameLaws.{told}
 use Rattle.desk_lines.specs.Notices.{taken}

@@ -1,4 +1,3 @@
-use borrow.Author.Rules.{rules}
 use Rattle.text.proofs.Writing.{◌then◌}
 use Rattle.desk_lines.proofs.put_within.Goals as goal
 
