@@ -1,4 +1,3 @@
-use borrow.Author.Rules.{rules}
 use Rattle.test_numbers.specs.Rows.{band_line}
 use Rattle.text.proofs.Writing.{◌then◌}
 use Rattle.test_numbers.proofs.put_band.Goals as goal

@@ -1,8 +1,7 @@
 use mathlib.Core.List.{List, []}
 use mathlib.Core.Path.{◌≡◌, sym, subst}
-use Prim.Native.Nat.{ℕ, ◌-◌, ◌≤◌}
+use Prim.Native.Nat.{ℕ, ◌≤◌}
 use native.Mathlib.Omega.{arith}
-use borrow.Author.Rules.{rules}
 use lib.ListN.{drop, take, length-drop}
 use lib.Seq.{take_all}
 use Rattle.paging.specs.Fit.{Filled}
@@ -28,10 +27,10 @@ pub loop-i-preserved : goal.loop-i-preserved
 loop-i-preserved c =
     (omega arith, lines_are (c.loop-i.invariant.1 follow c.fill_band-run.ensures) (lines_next _ c.loop-i.i _ c.thirds-bands.ensures (omega arith)))
 
-pub overflow_cast-result : goal.overflow_cast-result
-overflow_cast-result c = record { fits = omega (arith, filled_few (returns c), length-drop c.args.first band_lines, lines_length) }
-
 pub returns : goal.returns
 unfolding progress_of
 returns c =
     all_lines c.args.first c.loop-i.i c.start-run.ensures c.loop-i-test.false c.loop-i.invariant.1
+
+pub overflow_cast-result : goal.overflow_cast-result
+overflow_cast-result c = record { fits = omega (arith, filled_few (returns c), length-drop c.args.first band_lines, lines_length) }
