@@ -3,6 +3,6 @@
 
 use desk_return::desk;
 
-fn main() {
-    desk();
+fn main(rt: HostRuntime) {
+    desk(&rt, rt.process(), &rt.stderr());
 }

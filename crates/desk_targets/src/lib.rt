@@ -9,6 +9,7 @@ ghost use Rattle.desk_targets.specs.Target.{is_sheet, is_slim, is_ours, not_ours
 use call_slim::{Reply, slim};
 use desk_lines::Taken;
 use load::{Got, load};
+use std::fs::Files;
 use text::read::is_same;
 
 // What is known of a file before it is opened: whether it is a pipe or a device, whether an earlier file has its target, and
@@ -150,7 +151,8 @@ fn telling(form: Form) -> usize
 }
 
 // A target that no earlier file has, read into `older`.
-fn look(
+fn look<R: Files>(
+    rt: &R,
     form: Form,
     input: bool,
     blocked: bool,
@@ -161,14 +163,15 @@ fn look(
     requires { length older.old ≤ length out.old }
     ensures { Read form input older.new result }
 {
-    match load(path, blocked, older) {
+    match load(rt, path, blocked, older) {
         Got::Failed(error) => by_error(error),
         Got::Bytes(n) => by_bytes(form, input, &older[0..n], out),
     }
 }
 
 // What stands at `path`, whose device and inode is `id`.
-pub fn target_at(
+pub fn target_at<R: Files>(
+    rt: &R,
     form: Form,
     mark: Mark,
     path: &[u8],
@@ -185,5 +188,5 @@ pub fn target_at(
     }
     let mut older = [0u8; 65537];
     let k = telling(form);
-    look(form, input, mark.blocked, path, &mut older[0..k], out)
+    look(rt, form, input, mark.blocked, path, &mut older[0..k], out)
 }

@@ -3,6 +3,6 @@
 
 use print_calls::sheet_of_input;
 
-fn main() {
-    sheet_of_input();
+fn main(rt: HostRuntime) {
+    sheet_of_input(&rt);
 }

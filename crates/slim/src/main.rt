@@ -3,6 +3,6 @@
 
 use print_calls::slim_of_input;
 
-fn main() {
-    slim_of_input();
+fn main(rt: HostRuntime) {
+    slim_of_input(&rt);
 }

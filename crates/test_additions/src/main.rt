@@ -10,8 +10,9 @@ use call_sheet::sheet;
 use call_slim::slim;
 use call_title::title;
 use file_refusal::Refusal;
-use libc::STDOUT_FILENO;
 use paging::fit::Progress;
+use std::io::Read;
+use streams::write_all;
 use test_packs::{read_item, read_next};
 use text::read::is_same;
 
@@ -174,29 +175,35 @@ fn is_same_title<'a>(file: &'a [u8], new: &'a [u8], label: &'a [u8]) -> bool {
 }
 
 // Prints one of two texts.
-fn print_either(first: bool, one: &[u8], two: &[u8]) -> bool {
+fn print_either<P: Print>(rt: &P, first: bool, one: &[u8], two: &[u8]) -> bool {
     if first {
-        return io::write_all(STDOUT_FILENO, one);
+        return write_all(rt, one);
     }
-    io::write_all(STDOUT_FILENO, two)
+    write_all(rt, two)
 }
 
 // Prints which replies are the same, or which are not.
-fn print_replies(sheet: bool, slim: bool, title: bool) -> bool {
+fn print_replies<P: Print>(rt: &P, sheet: bool, slim: bool, title: bool) -> bool {
     if sheet && slim && title {
-        return io::write_all(STDOUT_FILENO, b", the same sheet, slim copy and title\n");
+        return write_all(rt, b", the same sheet, slim copy and title\n");
     }
-    print_either(sheet, b"", b", another sheet");
-    print_either(slim, b"", b", another slim copy");
-    print_either(title, b"", b", another title");
-    io::write_all(STDOUT_FILENO, b"\n")
+    print_either(rt, sheet, b"", b", another sheet");
+    print_either(rt, slim, b"", b", another slim copy");
+    print_either(rt, title, b"", b", another title");
+    write_all(rt, b"\n")
 }
 
 // Prints what there is to say of a pair.
-fn print_pair<'a>(file: &'a [u8], new: &'a [u8], label: &'a [u8]) -> bool {
-    print_either(is_same(file, new), b": the same file", b": another file");
-    print_either(is_accepted(new), b", accepted", b", refused");
+fn print_pair<'a, P: Print>(rt: &P, file: &'a [u8], new: &'a [u8], label: &'a [u8]) -> bool {
+    print_either(
+        rt,
+        is_same(file, new),
+        b": the same file",
+        b": another file",
+    );
+    print_either(rt, is_accepted(new), b", accepted", b", refused");
     print_replies(
+        rt,
         is_same_sheet(file, new, label),
         is_same_slim(file, new),
         is_same_title(file, new, label),
@@ -204,19 +211,28 @@ fn print_pair<'a>(file: &'a [u8], new: &'a [u8], label: &'a [u8]) -> bool {
 }
 
 // The next pair of the pack, after one with a file of `last` bytes. Answers the size of its file.
-fn print_next(name: &[u8], label: &mut [u8], file: &mut [u8], new: &mut [u8], last: usize) -> usize
+fn print_next<P: Print, R: Read>(
+    rt: &P,
+    pack: &mut R,
+    name: &[u8],
+    label: &mut [u8],
+    file: &mut [u8],
+    new: &mut [u8],
+    last: usize,
+) -> usize
     requires { last ≤ length file.old }
     ensures { result ≤ length file.new }
 {
-    let a = read_item(label);
-    let b = read_next(file, last);
-    let c = read_item(new);
-    io::write_all(STDOUT_FILENO, name);
-    print_pair(&file[0..b], &new[0..c], &label[0..a]);
+    let a = read_item(pack, label);
+    let b = read_next(pack, file, last);
+    let c = read_item(pack, new);
+    write_all(rt, name);
+    print_pair(rt, &file[0..b], &new[0..c], &label[0..a]);
     b
 }
 
-fn main() {
+fn main(rt: HostRuntime) {
+    let mut pack = rt.reader();
     let mut name = [0u8; 255];
     let mut label = [0u8; 508];
     let mut file = [0u8; 65538];
@@ -225,11 +241,19 @@ fn main() {
     // A proved loop has to end, and nothing says that the input does: a pack has at most a million pairs.
     let mut left = 1000000u32;
     while left > 0 {
-        let n = read_item(&mut name);
+        let n = read_item(&mut pack, &mut name);
         if n == 0 {
             return;
         }
-        size = print_next(&name[0..n], &mut label, &mut file, &mut new, size);
+        size = print_next(
+            &rt,
+            &mut pack,
+            &name[0..n],
+            &mut label,
+            &mut file,
+            &mut new,
+            size,
+        );
         left -= 1;
     }
 }

@@ -1,10 +1,10 @@
 // Sheet asked line by line with an output of 1,024 bytes, and from each line number on.
 ghost use Rattle.std.specs.Prelude.{◌≤◌, length};
 
-use bytes::scan::find;
+use crate::rooms::print_decimal;
 use call_sheet::{Reply, sheet};
-use libc::STDOUT_FILENO;
 use paging::fit::Progress;
+use streams::write_all;
 use text::read::is_same;
 
 // How many bytes the first line has of a text that is the first `size` bytes of the array, its end included.
@@ -12,8 +12,14 @@ fn line_length(scratch: &[u8], size: usize) -> usize
     requires { size ≤ length scratch.now }
     ensures { result ≤ length scratch.now }
 {
-    let end = find(scratch, 0, size, b'\n');
-    if end < size { end + 1 } else { end }
+    let mut i = 0;
+    while i < size {
+        if scratch[i] == b'\n' {
+            return i + 1;
+        }
+        i += 1;
+    }
+    size
 }
 
 // Writes the lines from line n on, as many as fit; none where the file is refused.
@@ -51,24 +57,24 @@ fn count_right<'a>(file: &'a [u8], label: &'a [u8], n: u32, whole: &[u8], at: us
 }
 
 // Prints line n, the first that an output of 1,024 bytes gets; its length.
-fn print_line<'a>(file: &'a [u8], label: &'a [u8], n: u32) -> usize
+fn print_line<'a, P: Print>(rt: &P, file: &'a [u8], label: &'a [u8], n: u32) -> usize
     ensures { result ≤ 1024 }
 {
     let mut scratch = [0u8; 1024];
     let p = lines_from(file, label, n, &mut scratch);
     let length = line_length(&scratch, p.bytes);
-    io::write_all(STDOUT_FILENO, &scratch[0..length]);
+    write_all(rt, &scratch[0..length]);
     length
 }
 
 // Prints a sheet, which is the text `whole`, line by line, and answers from how many line numbers on the rest is right.
-fn print_walk<'a>(file: &'a [u8], label: &'a [u8], whole: &[u8]) -> u32 {
+fn print_walk<'a, P: Print>(rt: &P, file: &'a [u8], label: &'a [u8], whole: &[u8]) -> u32 {
     let mut at = 0;
     let mut n = 0u32;
     let mut right = 0u32;
     while n < 1000000 {
         right += count_right(file, label, n, whole, at);
-        let length = print_line(file, label, n);
+        let length = print_line(rt, file, label, n);
         if length == 0 {
             return right;
         }
@@ -79,10 +85,10 @@ fn print_walk<'a>(file: &'a [u8], label: &'a [u8], whole: &[u8]) -> u32 {
 }
 
 // Prints the first line of each answer, and from how many line numbers on Sheet gave just the rest of the whole sheet.
-pub fn print_lines<'a>(file: &'a [u8], label: &'a [u8]) -> bool {
+pub fn print_lines<'a, P: Print>(rt: &P, file: &'a [u8], label: &'a [u8]) -> bool {
     let mut whole = [0u8; 65536];
     let size = rest_from(file, label, 0, &mut whole);
-    let right = print_walk(file, label, &whole[0..size]);
-    io::print_decimal(STDOUT_FILENO, right as u64);
-    io::write_all(STDOUT_FILENO, b" rests\n")
+    let right = print_walk(rt, file, label, &whole[0..size]);
+    print_decimal(rt, right as u64);
+    write_all(rt, b" rests\n")
 }

@@ -8,53 +8,60 @@ mod rooms;
 
 ghost use Rattle.std.specs.Prelude.{◌≤◌, length};
 
-use libc::STDOUT_FILENO;
 use lines::print_lines;
 use print_calls::{print_sheet, print_slim, print_title};
 use print_check::put_verdict;
 use rooms::{print_part, print_room};
+use std::io::Read;
+use streams::write_all;
 use test_packs::{read_item, read_next};
 use text::read::is_same;
 use words::long;
 
 // Prints the line of Check's answer.
-fn print_verdict(file: &[u8]) -> bool {
+fn print_verdict<P: Print>(rt: &P, file: &[u8]) -> bool {
     let mut line = [0u8; 199];
     let n = put_verdict(&mut line, file);
-    io::write_all(STDOUT_FILENO, &line[0..n])
+    write_all(rt, &line[0..n])
 }
 
 // Prints what a call answers that is given no numbers.
-fn print_whole<'a>(call: &[u8], label: &'a [u8], file: &'a [u8]) -> bool {
+fn print_whole<'a, P: Print>(rt: &P, call: &[u8], label: &'a [u8], file: &'a [u8]) -> bool {
     if is_same(call, b"check") {
-        return print_verdict(file);
+        return print_verdict(rt, file);
     }
     if is_same(call, b"title") {
-        return print_title(file, label);
+        return print_title(rt, file, label);
     }
     if is_same(call, b"slim") {
-        return print_slim(file);
+        return print_slim(rt, file);
     }
     if is_same(call, b"sheet") {
-        return print_sheet(file, label);
+        return print_sheet(rt, file, label);
     }
     if is_same(call, b"lines") {
-        return print_lines(file, label);
+        return print_lines(rt, file, label);
     }
-    io::write_all(STDOUT_FILENO, b"no such call\n")
+    write_all(rt, b"no such call\n")
 }
 
 // Prints what a call answers. Only Slim and Sheet take numbers.
-fn print_answer<'a>(call: &[u8], label: &'a [u8], file: &'a [u8], numbers: &[u8]) -> bool {
+fn print_answer<'a, P: Print>(
+    rt: &P,
+    call: &[u8],
+    label: &'a [u8],
+    file: &'a [u8],
+    numbers: &[u8],
+) -> bool {
     let n = long(numbers, 0);
     let room = long(numbers, 2) as usize;
     if numbers.len() == 8 && is_same(call, b"slim") {
-        return print_room(file, room);
+        return print_room(rt, file, room);
     }
     if numbers.len() == 8 && is_same(call, b"sheet") {
-        return print_part(file, label, n, room);
+        return print_part(rt, file, label, n, room);
     }
-    print_whole(call, label, file)
+    print_whole(rt, call, label, file)
 }
 
 // What an empty file stands for: how many bytes of the file before it.
@@ -65,21 +72,30 @@ fn kept(call: &[u8], last: usize) -> usize
 }
 
 // The next question of the pack, after one on a file of `last` bytes. Answers the size of its file.
-fn print_next(call: &[u8], name: &mut [u8], label: &mut [u8], file: &mut [u8], last: usize) -> usize
+fn print_next<P: Print, R: Read>(
+    rt: &P,
+    pack: &mut R,
+    call: &[u8],
+    name: &mut [u8],
+    label: &mut [u8],
+    file: &mut [u8],
+    last: usize,
+) -> usize
     requires { last ≤ length file.old }
     ensures { result ≤ length file.new }
 {
-    let a = read_item(name);
-    let b = read_item(label);
-    let c = read_next(file, kept(call, last));
+    let a = read_item(pack, name);
+    let b = read_item(pack, label);
+    let c = read_next(pack, file, kept(call, last));
     let mut numbers = [0u8; 8];
-    let d = read_item(&mut numbers);
-    io::write_all(STDOUT_FILENO, &name[0..a]);
-    print_answer(call, &label[0..b], &file[0..c], &numbers[0..d]);
+    let d = read_item(pack, &mut numbers);
+    write_all(rt, &name[0..a]);
+    print_answer(rt, call, &label[0..b], &file[0..c], &numbers[0..d]);
     c
 }
 
-fn main() {
+fn main(rt: HostRuntime) {
+    let mut pack = rt.reader();
     let mut call = [0u8; 32];
     let mut name = [0u8; 255];
     let mut label = [0u8; 508];
@@ -89,11 +105,19 @@ fn main() {
     // A proved loop has to end, and nothing says that the input does: a pack has at most a million questions.
     let mut left = 1000000u32;
     while left > 0 {
-        let n = read_item(&mut call);
+        let n = read_item(&mut pack, &mut call);
         if n == 0 {
             return;
         }
-        size = print_next(&call[0..n], &mut name, &mut label, &mut file, size);
+        size = print_next(
+            &rt,
+            &mut pack,
+            &call[0..n],
+            &mut name,
+            &mut label,
+            &mut file,
+            size,
+        );
         left -= 1;
     }
 }

@@ -5,29 +5,39 @@ ghost use Rattle.std.specs.Prelude.{◌≤◌};
 
 use desk_files::Task;
 use desk_return::{Job, serve_all};
-use desk_targets::load::{Got, load};
-use libc::{STDIN_FILENO, STDOUT_FILENO};
+use desk_targets::load::{Got, load, text_of};
+use std::env::Env;
+use std::fs::{Files, Permissions, set_permissions};
+use std::os::unix::fs::PermissionsExt;
+use std::process::Process;
+use streams::{arg, arg_count, read_full, write_all};
 
 // Sets what may be done with a file or a folder.
-fn allow(path: &[u8], mode: u32) -> bool {
-    let fd = os::open_read(path);
-    if fd < 0 {
-        return false;
+fn allow<R: Files>(rt: &R, path: &[u8], mode: u32) -> bool {
+    match text_of(path) {
+        Ok(path) => set_permissions(rt, path, Permissions::from_mode(mode)).is_ok(),
+        Err(_) => false,
     }
-    let is_set = libc::fchmod(fd, mode) == 0;
-    libc::close(fd);
-    is_set
 }
 
-fn say_all(all: bool) -> bool {
+fn say_all<P: Print>(rt: &P, all: bool) -> bool {
     if all {
-        return io::write_all(STDOUT_FILENO, b"all\n\n");
+        return write_all(rt, b"all\n\n");
     }
-    io::write_all(STDOUT_FILENO, b"not all\n\n")
+    write_all(rt, b"not all\n\n")
 }
 
 // A run of the desk; the names that did not get through stand on standard output too.
-fn run(task: Task, quiet: bool, label: &[u8], first: usize, files: usize, ids: &[u8]) -> bool
+fn run<R: Env + Files + Print>(
+    rt: &R,
+    process: Process,
+    task: Task,
+    quiet: bool,
+    label: &[u8],
+    first: usize,
+    files: usize,
+    ids: &[u8],
+) -> bool
     requires { (files ≤ 16384) × (first ≤ 16384) }
 {
     let mut line = [0u8; 12514];
@@ -37,62 +47,72 @@ fn run(task: Task, quiet: bool, label: &[u8], first: usize, files: usize, ids: &
         first,
         files,
     };
-    let end = serve_all(job, label, ids, &mut line, STDOUT_FILENO);
-    say_all(end.all)
+    let end = serve_all(rt, process, job, label, ids, &mut line, rt);
+    say_all(rt, end.all)
 }
 
 // A file after its name, where it is there and can be read.
-fn print_back(path: &[u8], scratch: &mut [u8]) -> bool {
-    match load(path, false, scratch) {
+fn print_back<R: Files + Print>(rt: &R, path: &[u8], scratch: &mut [u8]) -> bool {
+    match load(rt, path, false, scratch) {
         Got::Failed(_) => false,
         Got::Bytes(n) => {
-            io::write_all(STDOUT_FILENO, path);
-            io::write_all(STDOUT_FILENO, b":\n");
-            io::write_all(STDOUT_FILENO, &scratch[0..n])
+            write_all(rt, path);
+            write_all(rt, b":\n");
+            write_all(rt, &scratch[0..n])
         }
     }
 }
 
 // What stands at the target that an argument names.
-fn print_target(at: usize, scratch: &mut [u8]) -> bool {
+fn print_target<R: Env + Files + Print>(rt: &R, at: usize, scratch: &mut [u8]) -> bool {
     let mut path = [0u8; 4096];
-    let n = os::arg(at, &mut path);
-    print_back(&path[0..n], scratch)
+    let n = arg(rt, at, &mut path);
+    print_back(rt, &path[0..n], scratch)
 }
 
 // The targets of all runs.
-fn print_all(files: usize, scratch: &mut [u8])
+fn print_all<R: Env + Files + Print>(rt: &R, files: usize, scratch: &mut [u8])
     requires { files ≤ 32768 }
 {
     let mut i = 0;
     while i < files {
-        print_target(2 + 4 * i, scratch);
+        print_target(rt, 2 + 4 * i, scratch);
         i += 1;
     }
 }
 
 // Four arguments for each file and its sheet, then as many for each file and its slim copy.
-fn try_all(files: usize, ids: &[u8])
+fn try_all<R: Env + Files + Print>(rt: &R, process: Process, files: usize, ids: &[u8])
     requires { files ≤ 4000 }
 {
-    allow(b"shut.svn", 0);
-    allow(b"hidden.svn.csv", 0);
-    allow(b"hidden.svn.slim", 0);
-    allow(b"locked", 0o555);
-    run(Task::Checks, false, b"", 1, files, ids);
-    run(Task::Slims, false, b"", 1 + 4 * files, files, ids);
-    run(Task::Sheets, false, b"Order 17", 1, files, ids);
-    run(Task::Sheets, true, b"Order 17", 1, files, ids);
-    allow(b"locked", 0o755);
+    allow(rt, b"shut.svn", 0);
+    allow(rt, b"hidden.svn.csv", 0);
+    allow(rt, b"hidden.svn.slim", 0);
+    allow(rt, b"locked", 0o555);
+    run(rt, process, Task::Checks, false, b"", 1, files, ids);
+    run(
+        rt,
+        process,
+        Task::Slims,
+        false,
+        b"",
+        1 + 4 * files,
+        files,
+        ids,
+    );
+    run(rt, process, Task::Sheets, false, b"Order 17", 1, files, ids);
+    run(rt, process, Task::Sheets, true, b"Order 17", 1, files, ids);
+    allow(rt, b"locked", 0o755);
     let mut scratch = [0u8; 65536];
-    print_all(2 * files, &mut scratch);
+    print_all(rt, 2 * files, &mut scratch);
 }
 
-fn main() {
+fn main(rt: HostRuntime) {
     let mut ids = [0u8; 4000];
-    let n = io::read_full(STDIN_FILENO, &mut ids);
-    let files = os::arg_count() / 8;
+    let n = read_full(&mut rt.reader(), &mut ids);
+    // More arguments than 4,000 files have are counted as one file too many.
+    let files = arg_count(&rt, 32008) / 8;
     if files <= 4000 {
-        try_all(files, &ids[0..n]);
+        try_all(&rt, rt.process(), files, &ids[0..n]);
     }
 }

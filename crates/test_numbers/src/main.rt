@@ -7,9 +7,9 @@ ghost use Rattle.paging.specs.Fit.{TriedTo, Filled};
 ghost use Rattle.paging.specs.Run.{Inside, Continued};
 ghost use Rattle.test_numbers.specs.Rows.{band_line, band_lines};
 
-use libc::STDOUT_FILENO;
 use paging::fit::{Progress, Tried, try_line};
 use paging::run::Run;
+use streams::write_all;
 use text::decimal::put_decimal;
 use text::put::{put_byte, put_text};
 use units::frequency::{Centihertz, put_centihertz, thirds};
@@ -64,56 +64,56 @@ fn put_bands(out: &mut [u8], first: u32) -> Progress
 }
 
 // A row of standard output: what kind of text it shows, and the text, which is the first n bytes of out.
-fn print(kind: &[u8], out: &[u8], n: usize)
+fn print<P: Print>(rt: &P, kind: &[u8], out: &[u8], n: usize)
     requires { n ≤ length out.now }
 {
-    io::write_all(STDOUT_FILENO, kind);
-    io::write_all(STDOUT_FILENO, &out[0..n]);
-    io::write_all(STDOUT_FILENO, b"\n");
+    write_all(rt, kind);
+    write_all(rt, &out[0..n]);
+    write_all(rt, b"\n");
 }
 
-fn print_text(text: &[u8; 8]) {
+fn print_text<P: Print>(rt: &P, text: &[u8; 8]) {
     let mut out = [0u8; 8];
     let n = put_text(&mut out, text);
-    print(b"text,", &out, n);
+    print(rt, b"text,", &out, n);
 }
 
-fn print_decimal(kind: &[u8], v: u64) {
+fn print_decimal<P: Print>(rt: &P, kind: &[u8], v: u64) {
     let mut out = [0u8; 20];
     let n = put_decimal(&mut out, v);
-    print(kind, &out, n);
+    print(rt, kind, &out, n);
 }
 
-fn print_level(kind: &[u8], t: Tenths) {
+fn print_level<P: Print>(rt: &P, kind: &[u8], t: Tenths) {
     let mut out = [0u8; 12];
     let n = put_tenths(&mut out, t);
-    print(kind, &out, n);
+    print(rt, kind, &out, n);
 }
 
-fn print_frequency(f: Centihertz) {
+fn print_frequency<P: Print>(rt: &P, f: Centihertz) {
     let mut out = [0u8; 12];
     let n = put_centihertz(&mut out, f);
-    print(b"frequency,", &out, n);
+    print(rt, b"frequency,", &out, n);
 }
 
 // The lines of the bands that fit into 16 bytes, and how many these are.
-fn print_bands(first: u32) {
+fn print_bands<P: Print>(rt: &P, first: u32) {
     let mut out = [0u8; 16];
     let p = put_bands(&mut out, first);
     let n = p.bytes;
-    print(b"bands\n", &out, n);
-    print_decimal(b"lines,", p.lines as u64);
+    print(rt, b"bands\n", &out, n);
+    print_decimal(rt, b"lines,", p.lines as u64);
 }
 
-fn main() {
-    print_text(b"Hall\x1F\x7F~ ");
-    print_decimal(b"number,", 18446744073709551615);
-    print_decimal(b"time,", words::long(b"\x01\x00\x02\x00", 0) as u64);
-    print_level(b"level,", Tenths::level(words::word(b"\xFB\xFF", 0)));
-    print_level(b"level,", Tenths::level(0x8000));
-    print_level(b"bound,", Tenths::bound(0x7FFF, 16319, 65535));
-    print_frequency(Centihertz(3150));
-    print_bands(0);
-    print_bands(43);
-    print_bands(45);
+fn main(rt: HostRuntime) {
+    print_text(&rt, b"Hall\x1F\x7F~ ");
+    print_decimal(&rt, b"number,", 18446744073709551615);
+    print_decimal(&rt, b"time,", words::long(b"\x01\x00\x02\x00", 0) as u64);
+    print_level(&rt, b"level,", Tenths::level(words::word(b"\xFB\xFF", 0)));
+    print_level(&rt, b"level,", Tenths::level(0x8000));
+    print_level(&rt, b"bound,", Tenths::bound(0x7FFF, 16319, 65535));
+    print_frequency(&rt, Centihertz(3150));
+    print_bands(&rt, 0);
+    print_bands(&rt, 43);
+    print_bands(&rt, 45);
 }

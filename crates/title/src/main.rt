@@ -3,6 +3,6 @@
 
 use print_calls::title_of_input;
 
-fn main() {
-    title_of_input();
+fn main(rt: HostRuntime) {
+    title_of_input(&rt);
 }

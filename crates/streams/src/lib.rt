@@ -1,0 +1,52 @@
+// Reading and writing bytes as far as they go, and the arguments of a program.
+#![tactic(auto)]
+
+ghost use Rattle.std.specs.Prelude.{◌≤◌, length};
+
+use std::env::{Env, FillError};
+use std::io::Read;
+
+// As many bytes as there are, or as fit into `held`; how many. A read that fails is taken for the end.
+pub fn read_full<R: Read>(from: &mut R, held: &mut [u8]) -> usize
+    ensures { result ≤ length held.new }
+{
+    let mut at = 0;
+    while at < held.len() {
+        match from.read(&mut held[at..]) {
+            Ok(0) => return at,
+            Ok(n) => at += n,
+            Err(_) => return at,
+        }
+    }
+    at
+}
+
+// Whether all bytes were written.
+pub fn write_all<P: Print>(to: &P, bytes: &[u8]) -> bool {
+    to.write_all(bytes).is_ok()
+}
+
+// Argument i at the front of `held`, and its length; 0 where there is none, or where it is longer.
+pub fn arg<E: Env>(rt: &E, i: usize, held: &mut [u8]) -> usize
+    ensures { result ≤ length held.new }
+{
+    match rt.arg(i, held) {
+        Ok(n) => n,
+        Err(_) => 0,
+    }
+}
+
+// How many arguments there are, the program's name among them, and `most` where there are more.
+pub fn arg_count<E: Env>(rt: &E, most: usize) -> usize
+    ensures { result ≤ most }
+{
+    let mut front = [0u8; 1];
+    let mut n = 0;
+    while n < most {
+        if let Err(FillError::NotPresent) = rt.arg(n, &mut front) {
+            return n;
+        }
+        n += 1;
+    }
+    n
+}
