@@ -58,6 +58,7 @@ pub enum Line {
     },
 }
 
+#[tactic(auto, unfolding(crate::specs::Kinds::line_of, sheet_lines::specs::Lines::number_entry, sheet_lines::specs::Lines::class_heading, sheet_lines::specs::Line::bytes, sheet_lines::specs::Line::separated, sheet_fields::specs::Fields::further))]
 pub fn put_line(out: &mut [u8], line: Line) -> usize
     requires brief { Brief line }
     requires in_bounds { 1024 ≤ length out.old }
