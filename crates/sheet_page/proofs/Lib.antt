@@ -1,4 +1,5 @@
 -- The laws of rows; that no line is long, no sheet has too many, and the head is read as it is meant.
+pub mod OctaveList
 pub mod RowLaws
 pub mod ShortLaws
 pub mod FieldLengths

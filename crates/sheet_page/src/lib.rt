@@ -1,3 +1,2 @@
 // The definition of the sheet stands in specs/: there is no code here.
 #![tactic(auto)]
-
