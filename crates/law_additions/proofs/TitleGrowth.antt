@@ -26,8 +26,8 @@ use Rattle.law_additions.proofs.TextGrowth.{nulled_some, text_same}
 use Rattle.law_additions.proofs.FirstWord.{same_row, logger_row_lem, counted_front}
 
 module _ (s : Setup) (h : ℕ) (t t' raw : List ℕ) (may : is_text (kind_of (low h)) ≡ true) (null : nulled t' ≡ true) (text : before_null (bytes_of t') ≡ before_null (bytes_of t)) where
-  abbrev title-row : Row
-  title-row = row_for s h
+  abbrev own_title_row : Row
+  own_title_row = row_for s h
 
   abbrev h₂ : ℕ
   h₂ = low h + 256 * suc (length t')
@@ -36,18 +36,18 @@ module _ (s : Setup) (h : ℕ) (t t' raw : List ℕ) (may : is_text (kind_of (lo
   unfolding is_text
   said = and_both (kind_of (low h)).listed _ may
 
-  pub is_text_lem : Text title-row
+  pub is_text_lem : Text own_title_row
   is_text_lem = (each_sound s h).text (row_text s h ∙ said.1)
 
-  pub title_good : kept title-row (h ∷ t) ≡ Good → kept title-row (h₂ ∷ t') ≡ Good
+  pub title_good : kept own_title_row (h ∷ t) ≡ Good → kept own_title_row (h₂ ∷ t') ≡ Good
   unfolding least_of sized readable rules_in ruled buffered records
   title_good g =
-      says_kept title-row (h₂ ∷ t')
+      says_kept own_title_row (h₂ ∷ t')
       (record {
-        sized = simp (is_text_lem.exact, ne_eqb (high h₂) 0 (λ z. omega (arith, counted_high h (suc (length t')))), le-leb title-row.least (suc (length t')) (omega (arith, is_text_lem.least, nulled_some t' null)));
+        sized = simp (is_text_lem.exact, ne_eqb (high h₂) 0 (λ z. omega (arith, counted_high h (suc (length t')))), le-leb own_title_row.least (suc (length t')) (omega (arith, is_text_lem.least, nulled_some t' null)));
         null = rw (row_text s h ∙ said.1) null;
         rules = rw is_text_lem.rules;
-        filled = full_filled title-row (h₂ ∷ t') (rw (is_text_lem.more (h₂ ∷ t')) (omega (arith, is_text_lem.least, nulled_some t' null)));
+        filled = full_filled own_title_row (h₂ ∷ t') (rw (is_text_lem.more (h₂ ∷ t')) (omega (arith, is_text_lem.least, nulled_some t' null)));
         whole = rw is_text_lem.logger;
         subs = rw is_text_lem.subs;
       })

@@ -37,11 +37,11 @@ pub comma_needs : (l : List ℕ) (i : ℕ) → i < length l → get_or l i 0 ≡
 comma_needs l i h e = rw (needs_from l i h, eq-eqb _ _ e)
 
 pub quote_needs : (l : List ℕ) (i : ℕ) → i < length l → get_or l i 0 ≡ quote → needs_quotes (drop i l) ≡ true
-quote_needs l i h e = rw (needs_from l i h, eq-eqb _ _ e) (or-true (eqb (get_or l i 0) comma))
+quote_needs l i h e = rw (needs_from l i h, eq-eqb _ _ e) (or_true (eqb (get_or l i 0) comma))
   where
-    or-true : (t : Bool) → (t || true) ≡ true
-    or-true true = refl
-    or-true false = refl
+    or_true : (t : Bool) → (t || true) ≡ true
+    or_true true = refl
+    or_true false = refl
 
 pub neither_needs : (l : List ℕ) (i : ℕ) → i < length l → (get_or l i 0 ≡ comma → ⊥) → (get_or l i 0 ≡ quote → ⊥) → needs_quotes (drop i l) ≡ needs_quotes (drop (suc i) l)
 neither_needs l i h p q = rw (needs_from l i h, ne_eqb _ _ p, ne_eqb _ _ q)
