@@ -61,7 +61,7 @@ pub entered_due : (s s' : State) (at : ℕ) (b : List ℕ) → entered_by s at b
 unfolding entered entered_by
 entered_due s s' at b e = subst (λ (st : State). st.due ≡ due_after st.setup (key_of (get_or b 0 0))) e refl
 
-module _ (key : ℕ) (is_listed : (kind_of (low key)).listed ≡ true) (no_Header : eqb key 0x01 ≡ false) (no_end : eqb end_marker key ≡ false) where
+module _ (key : ℕ) (is_listed : (kind_of (low key)).listed ≡ true) (no_header : eqb key 0x01 ≡ false) (no_end : eqb end_marker key ≡ false) where
   module _ {ws : List ℕ} {c : Cursor} {known : Setup} {xs : List Slim} (o : Onward ws c known xs) (d : o.state.due ≡ only key) where
     -- a listed block is the one that may come
     come_key : (b : List ℕ) → is_due o.state.due (key_of (get_or b 0 0)) ≡ true → key_of (get_or b 0 0) ≡ key
@@ -106,7 +106,7 @@ module _ (key : ℕ) (is_listed : (kind_of (low key)).listed ≡ true) (no_Heade
         where
           go : Through o.state start b v.passes.state → (p : Onward ws next known xs) × (p.state.due ≡ only key)
           go (unlisted l e) =
-              let stays : (skipped o.state).due ≡ only key = rw d (only_passes key no_Header) in
+              let stays : (skipped o.state).due ≡ only key = rw d (only_passes key no_header) in
               let on : (p : Onward ws next known v.more) × (p.state.due ≡ only key) =
               (rw l at v.on, subst⁻¹ (λ (st : State). st.due ≡ only key) (v.state_is ∙ sym e) stays) in
               subst⁻¹ (λ (ys : List Slim). (p : Onward ws next known ys) × (p.state.due ≡ only key)) (rw l at v.split) on
