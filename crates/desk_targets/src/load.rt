@@ -1,5 +1,5 @@
 // Reading a whole file.
-ghost use Rattle.std.specs.Prelude.{length};
+ghost use Rattle.std.specs.Prelude.{◌≡◌, MatchResult, length};
 ghost use Rattle.desk_targets.specs.Target.{Fits};
 
 use std::fs::{File, Files};
@@ -37,7 +37,9 @@ pub fn error(e: &Error) -> u16 {
 }
 
 // A name as text; the library opens no other. Where it is none, the system's number for bytes that are no text.
-pub fn text_of(name: &[u8]) -> Result<&str, u16> {
+pub fn text_of(name: &[u8]) -> Result<&str, u16>
+    ensures { MatchResult result (λ text. text.now ≡ name.now) (λ error. error ≡ 84) }
+{
     match from_utf8(name) {
         Ok(text) => Ok(text),
         Err(_) => Err(84),

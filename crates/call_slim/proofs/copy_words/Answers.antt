@@ -1,11 +1,10 @@
 use native.Mathlib.Omega.{arith}
 use mathlib.Core.Path.{sym, ap, ◌∙◌}
 use lib.ListN.{length}
-use Rattle.words.specs.Words.{words_of}
 use Rattle.call_check.specs.Slims.{slims_in}
 use Rattle.call_check.proofs.Onward.{onward}
 use Rattle.call_slim.proofs.CopyLaws.{copy_few}
-use Rattle.call_slim.proofs.Turns.{Turn, turn, turn_end}
+use Rattle.call_slim.proofs.Turns.{turn, turn_end}
 use Rattle.call_slim.proofs.copy_words.Goals as goal
 
 pub loop-start-init : goal.loop-start-init
@@ -24,22 +23,20 @@ returns-in_default c =
 
 pub part_words-n-requires : goal.part_words-n-requires
 part_words-n-requires c =
-    let told : Turn (words_of c.args.file.now) c.loop-start.cursor c.loop-start.known c.loop-start.invariant.0 c.in-Block.start c.in-Block.length c.in-Block.next = turn (λ i. omega (arith, c.type_inv.file i)) c.requires c.loop-start.invariant.1.0 _ _ _ _ _ (sym c.step-step.ensures ∙ c.in-Block.is) in
+    let told = turn (λ i. omega (arith, c.type_inv.file i)) c.requires c.loop-start.invariant.1.0 _ _ _ _ _ (sym c.step-step.ensures ∙ c.in-Block.is) in
     told.within
 
 pub overflow_add-n : goal.overflow_add-n
 overflow_add-n c =
-    let told : Turn (words_of c.args.file.now) c.loop-start.cursor c.loop-start.known c.loop-start.invariant.0 c.in-Block.start c.in-Block.length c.in-Block.next = turn (λ i. omega (arith, c.type_inv.file i)) c.requires c.loop-start.invariant.1.0 _ _ _ _ _ (sym c.step-step.ensures ∙ c.in-Block.is) in
-    let t = told in
-    omega (arith, c.loop-start.invariant.1.1, c.part_words-n.ensures, t.sum, copy_few _ (λ i. omega (arith, c.type_inv.file i)) c.requires)
+    let told = turn (λ i. omega (arith, c.type_inv.file i)) c.requires c.loop-start.invariant.1.0 _ _ _ _ _ (sym c.step-step.ensures ∙ c.in-Block.is) in
+    omega (arith, c.loop-start.invariant.1.1, c.part_words-n.ensures, told.sum, copy_few _ (λ i. omega (arith, c.type_inv.file i)) c.requires)
 
 pub loop-start-smaller : goal.loop-start-smaller
 loop-start-smaller c =
-    let told : Turn (words_of c.args.file.now) c.loop-start.cursor c.loop-start.known c.loop-start.invariant.0 c.in-Block.start c.in-Block.length c.in-Block.next = turn (λ i. omega (arith, c.type_inv.file i)) c.requires c.loop-start.invariant.1.0 _ _ _ _ _ (sym c.step-step.ensures ∙ c.in-Block.is) in
+    let told = turn (λ i. omega (arith, c.type_inv.file i)) c.requires c.loop-start.invariant.1.0 _ _ _ _ _ (sym c.step-step.ensures ∙ c.in-Block.is) in
     omega (arith, told.further)
 
 pub loop-start-preserved : goal.loop-start-preserved
 loop-start-preserved c =
-    let told : Turn (words_of c.args.file.now) c.loop-start.cursor c.loop-start.known c.loop-start.invariant.0 c.in-Block.start c.in-Block.length c.in-Block.next = turn (λ i. omega (arith, c.type_inv.file i)) c.requires c.loop-start.invariant.1.0 _ _ _ _ _ (sym c.step-step.ensures ∙ c.in-Block.is) in
-    let t = told in
-    (t.more, (rw c.known_from-known.ensures t.on, omega (arith, c.loop-start.invariant.1.1, c.part_words-n.ensures, t.sum)))
+    let told = turn (λ i. omega (arith, c.type_inv.file i)) c.requires c.loop-start.invariant.1.0 _ _ _ _ _ (sym c.step-step.ensures ∙ c.in-Block.is) in
+    (told.more, (rw c.known_from-known.ensures told.on, omega (arith, c.loop-start.invariant.1.1, c.part_words-n.ensures, told.sum)))

@@ -1,13 +1,9 @@
 use native.Mathlib.Omega.{arith}
-use mathlib.Core.List.{[], ◌∷◌}
-use mathlib.Core.Path.{◌≡◌, sym, ◌∙◌}
-use Rattle.words.specs.Words.{words_of}
-use Rattle.file_walk.specs.Walk.{end_marker}
+use mathlib.Core.Path.{sym, ◌∙◌}
 use Rattle.call_check.specs.Slims.{slims_in}
 use Rattle.call_check.proofs.Onward.{onward}
 use Rattle.file_slim.proofs.WordWriting.{begin}
-use Rattle.call_slim.specs.Copy.{slim_words}
-use Rattle.call_slim.proofs.Turns.{Turn, turn, turn_end, part_room, part_next, end_room, end_next}
+use Rattle.call_slim.proofs.Turns.{turn, turn_end, part_room, part_next, end_room, end_next}
 use Rattle.call_slim.proofs.put_copy.Goals as goal
 
 pub loop-start-init : goal.loop-start-init
@@ -16,28 +12,27 @@ loop-start-init c =
 
 pub put_word-requires : goal.put_word-requires
 put_word-requires c =
-    let last : slim_words c.loop-start.invariant.0 ≡ end_marker ∷ [] = turn_end c.loop-start.invariant.1.0 _ (sym c.step-step.ensures ∙ c.in_default.is) in
+    let last = turn_end c.loop-start.invariant.1.0 _ (sym c.step-step.ensures ∙ c.in_default.is) in
     omega (arith, end_room c.requires.1 _ last c.loop-start.invariant.1.1)
 
 pub returns-in_default : goal.returns-in_default
 returns-in_default c =
-    let last : slim_words c.loop-start.invariant.0 ≡ end_marker ∷ [] = turn_end c.loop-start.invariant.1.0 _ (sym c.step-step.ensures ∙ c.in_default.is) in
+    let last = turn_end c.loop-start.invariant.1.0 _ (sym c.step-step.ensures ∙ c.in_default.is) in
     end_next c.requires.1 _ last c.loop-start.invariant.1.1 c.put_word.ensures
 
 pub put_part-n-requires : goal.put_part-n-requires
 put_part-n-requires c =
-    let told : Turn (words_of c.args.file.now) c.loop-start.cursor c.loop-start.known c.loop-start.invariant.0 c.in-Block.start c.in-Block.length c.in-Block.next = turn (λ i. omega (arith, c.type_inv.file i)) c.requires.0 c.loop-start.invariant.1.0 _ _ _ _ _ (sym c.step-step.ensures ∙ c.in-Block.is) in
+    let told = turn (λ i. omega (arith, c.type_inv.file i)) c.requires.0 c.loop-start.invariant.1.0 _ _ _ _ _ (sym c.step-step.ensures ∙ c.in-Block.is) in
     (told.within, part_room c.requires.1 told c.loop-start.invariant.1.1)
 
 pub loop-start-smaller : goal.loop-start-smaller
 loop-start-smaller c =
-    let told : Turn (words_of c.args.file.now) c.loop-start.cursor c.loop-start.known c.loop-start.invariant.0 c.in-Block.start c.in-Block.length c.in-Block.next = turn (λ i. omega (arith, c.type_inv.file i)) c.requires.0 c.loop-start.invariant.1.0 _ _ _ _ _ (sym c.step-step.ensures ∙ c.in-Block.is) in
+    let told = turn (λ i. omega (arith, c.type_inv.file i)) c.requires.0 c.loop-start.invariant.1.0 _ _ _ _ _ (sym c.step-step.ensures ∙ c.in-Block.is) in
     omega (arith, told.further)
 
 pub loop-start-preserved : goal.loop-start-preserved
 loop-start-preserved c =
-    let told : Turn (words_of c.args.file.now) c.loop-start.cursor c.loop-start.known c.loop-start.invariant.0 c.in-Block.start c.in-Block.length c.in-Block.next = turn (λ i. omega (arith, c.type_inv.file i)) c.requires.0 c.loop-start.invariant.1.0 _ _ _ _ _ (sym c.step-step.ensures ∙ c.in-Block.is) in
-    let l = c in (
+    let told = turn (λ i. omega (arith, c.type_inv.file i)) c.requires.0 c.loop-start.invariant.1.0 _ _ _ _ _ (sym c.step-step.ensures ∙ c.in-Block.is) in (
       told.more,
-      (rw c.known_from-known.ensures told.on, part_next l.requires.1 told l.loop-start.invariant.1.1 c.put_part-n.ensures),
+      (rw c.known_from-known.ensures told.on, part_next c.requires.1 told c.loop-start.invariant.1.1 c.put_part-n.ensures),
     )

@@ -10,7 +10,7 @@ use Rattle.file_walk.specs.Walk.{raw_of}
 use Rattle.file_rules.specs.Slim.{slim_by, words_in}
 use Rattle.file_slim.specs.Cut.{HasRoom}
 use Rattle.file_slim.proofs.WordWriting.{begin, finished, words_are, words_then, room_next}
-use Rattle.call_slim.proofs.CopyLaws.{Read, read_at, read_unlisted, read_listed, read_cuts, read_length}
+use Rattle.call_slim.proofs.CopyLaws.{read_at, read_unlisted, read_listed, read_cuts, read_length}
 use Rattle.call_slim.proofs.put_part.Goals as goal
 
 -- the raw words as the code finds them
@@ -19,18 +19,18 @@ raw_words ws b from n p m r = rw (← m, ← p.words) r.words
 
 pub returns-then-not-row : goal.returns-then-not-row
 returns-then-not-row c =
-    let told : Read (words_of c.args.file.now) c.args.known c.args.start c.args.len (words_of c.front-b.result.now) c.row_by-row.result = let s = c.args in read_at (words_of s.file.now) s.known s.start s.len c.rest.ensures c.front-b.ensures c.row_by-row.ensures in
+    let told = read_at (words_of c.args.file.now) c.args.known c.args.start c.args.len c.rest.ensures c.front-b.ensures c.row_by-row.ensures in
     words_are (finished (begin [] _)) (sym (read_unlisted told (not-true _ c.if-not-row.true)))
 
 pub put_slim-a-requires : goal.put_slim-a-requires
 put_slim-a-requires c =
-    let told : Read (words_of c.args.file.now) c.args.known c.args.start c.args.len (words_of c.front-b.result.now) c.row_by-row.result = let s = c.args in read_at (words_of s.file.now) s.known s.start s.len c.rest.ensures c.front-b.ensures c.row_by-row.ensures in
+    let told = read_at (words_of c.args.file.now) c.args.known c.args.start c.args.len c.rest.ensures c.front-b.ensures c.row_by-row.ensures in
     let l = not-false _ c.if-not-row.false in
     (read_cuts told c.requires.0 l, omega (arith, read_length told c.requires.0 l))
 
 pub put_words-requires : goal.put_words-requires
 put_words-requires c =
-    let told : Read (words_of c.args.file.now) c.args.known c.args.start c.args.len (words_of c.front-b.result.now) c.row_by-row.result = let s = c.args in read_at (words_of s.file.now) s.known s.start s.len c.rest.ensures c.front-b.ensures c.row_by-row.ensures in
+    let told = read_at (words_of c.args.file.now) c.args.known c.args.start c.args.len c.rest.ensures c.front-b.ensures c.row_by-row.ensures in
     let ws = words_of c.args.file.now in
     let b = words_of c.front-b.result.now in
     let from = c.args.start + c.args.len in
@@ -41,7 +41,7 @@ put_words-requires c =
 
 pub returns : goal.returns
 returns c =
-    let told : Read (words_of c.args.file.now) c.args.known c.args.start c.args.len (words_of c.front-b.result.now) c.row_by-row.result = let s = c.args in read_at (words_of s.file.now) s.known s.start s.len c.rest.ensures c.front-b.ensures c.row_by-row.ensures in
+    let told = read_at (words_of c.args.file.now) c.args.known c.args.start c.args.len c.rest.ensures c.front-b.ensures c.row_by-row.ensures in
     let ws = words_of c.args.file.now in
     let b = words_of c.front-b.result.now in
     let from = c.args.start + c.args.len in

@@ -8,11 +8,11 @@ use Rattle.desk_lines.proofs.put_again_word.Goals as goal
 
 pub returns-in-1 : goal.returns-in-1
 unfolding named again_words
-returns-in-1 c = let a = c in keyed again_words 1 a.args.fate (omega arith) a.put_bytes.ensures (omega arith)
+returns-in-1 c = keyed again_words 1 c.args.fate (omega arith) c.put_bytes.ensures (omega arith)
 
 pub returns-in-2 : goal.returns-in-2
 unfolding named again_words
-returns-in-2 c = let a = c in keyed again_words 2 a.args.fate (omega arith) a.put_bytes-in-2.ensures (omega arith)
+returns-in-2 c = keyed again_words 2 c.args.fate (omega arith) c.put_bytes-in-2.ensures (omega arith)
 
 pub returns-in_default : goal.returns-in_default
 unfolding again_words

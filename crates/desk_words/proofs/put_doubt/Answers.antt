@@ -11,8 +11,8 @@ returns-in-Meter c = text_is (at_most (nothing _) (search rules)) (ap doubt (sym
 
 pub returns-in-Other : goal.returns-in-Other
 unfolding doubt
-returns-in-Other c = let a = c in text_is (at_most a.put_bytes.ensures (search rules)) (ap doubt (sym a.in-Other.is))
+returns-in-Other c = text_is (at_most c.put_bytes.ensures (search rules)) (ap doubt (sym c.in-Other.is))
 
 pub returns-in-Empty : goal.returns-in-Empty
 unfolding doubt
-returns-in-Empty c = let a = c in text_is (at_most a.put_bytes-in-Empty.ensures (search rules)) (ap doubt (sym a.in-Empty.is))
+returns-in-Empty c = text_is (at_most c.put_bytes-in-Empty.ensures (search rules)) (ap doubt (sym c.in-Empty.is))

@@ -13,8 +13,8 @@ after_comma w number = ascii "," ++ result_field number w
 
 pub returns-in-Level : goal.returns-in-Level
 unfolding result_field
-returns-in-Level c = let a = c in told (after_comma _) a.in-Level.is a.put_level.ensures (omega arith)
+returns-in-Level c = told (after_comma _) c.in-Level.is c.put_level.ensures (omega arith)
 
 pub returns-in-Plain : goal.returns-in-Plain
 unfolding result_field
-returns-in-Plain c = let a = c in told (after_comma _) a.in-Plain.is a.put_whole.ensures (omega arith)
+returns-in-Plain c = told (after_comma _) c.in-Plain.is c.put_whole.ensures (omega arith)

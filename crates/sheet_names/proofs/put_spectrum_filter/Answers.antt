@@ -5,8 +5,8 @@ use Rattle.sheet_names.proofs.put_spectrum_filter.Goals as goal
 
 pub returns-then-model-eq953 : goal.returns-then-model-eq953
 unfolding spectrum_filters
-returns-then-model-eq953 c = let a = c in rw (eq-eqb _ 953 a.if-model-eq953.true) a.put_profile_filter.ensures
+returns-then-model-eq953 c = rw (eq-eqb _ 953 c.if-model-eq953.true) c.put_profile_filter.ensures
 
 pub returns : goal.returns
 unfolding spectrum_filters
-returns c = let a = c in rw (ne_eqb _ 953 a.if-model-eq953.false) a.put_octave_filter.ensures
+returns c = rw (ne_eqb _ 953 c.if-model-eq953.false) c.put_octave_filter.ensures

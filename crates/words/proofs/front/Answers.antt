@@ -21,14 +21,11 @@ slice_bounds-result-end-else-n-all c = omega (arith, words_length c.args.bytes.n
 
 pub returns-then-n-all : goal.returns-then-n-all
 returns-then-n-all c =
-    let known = c in
-    let args = known.args in
-    part_holds args.bytes.now 0 args.n _ (λ i. omega (arith, known.type_inv.bytes i)) (sub-zero (2 * args.n)) (omega (arith, words_length args.bytes.now))
+    let args = c.args in
+    part_holds args.bytes.now 0 args.n _ (λ i. omega (arith, c.type_inv.bytes i)) (sub-zero (2 * args.n)) (omega (arith, words_length args.bytes.now))
 
 pub returns-else-n-all : goal.returns-else-n-all
 returns-else-n-all c =
-    let n = c in
-    let known = n in
-    let args = known.args in
+    let args = c.args in
     rw (take_all args.n (words_of args.bytes.now) (omega arith))
-    (rest_holds args.bytes.now 0 n.count-all.result _ (λ i. omega (arith, known.type_inv.bytes i)) n.count-all.ensures (omega arith) refl)
+    (rest_holds args.bytes.now 0 c.count-all.result _ (λ i. omega (arith, c.type_inv.bytes i)) c.count-all.ensures (omega arith) refl)

@@ -4,6 +4,5 @@ use Rattle.words.proofs.long.Goals as goal
 
 pub returns : goal.returns
 returns c =
-    let field = c in
-    let args = field.args in
-    long_from (words_of args.bytes.now) _ args.i _ _ field.rest-field.ensures.words c.word.ensures c.word-2.ensures
+    let args = c.args in
+    long_from (words_of args.bytes.now) _ args.i _ _ c.rest-field.ensures.words c.word.ensures c.word-2.ensures

@@ -15,11 +15,8 @@ slice_bounds-result-end c = omega (arith, words_length c.args.bytes.now)
 
 pub returns-then-k-n : goal.returns-then-k-n
 returns-then-k-n c =
-    let n = c in
-    let known = n in
-    rest_holds known.args.bytes.now _ _ _ (λ i. omega (arith, known.type_inv.bytes i)) n.count-n.ensures c.if-k-n.true refl
+    rest_holds c.args.bytes.now _ _ _ (λ i. omega (arith, c.type_inv.bytes i)) c.count-n.ensures c.if-k-n.true refl
 
 pub returns-else-k-n : goal.returns-else-k-n
 returns-else-k-n c =
-    let n = c in
-    none_holds (words_of n.args.bytes.now) n.args.k (omega arith)
+    none_holds (words_of c.args.bytes.now) c.args.k (omega arith)

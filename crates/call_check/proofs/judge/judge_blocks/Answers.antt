@@ -13,7 +13,7 @@ loop-next-init c =
     (omega (arith, words_length a.file.now), rw (c.first-state.ensures, c.start-cursor.ensures) (ahead (words_of a.file.now)))
 
 pub judged-requires : goal.judged-requires
-judged-requires c = let s = c in subst⁻¹ Near s.step-step.ensures (near _ _ s.loop-next.invariant.0)
+judged-requires c = subst⁻¹ Near c.step-step.ensures (near _ _ c.loop-next.invariant.0)
 
 pub returns-in_default : goal.returns-in_default
 returns-in_default c =

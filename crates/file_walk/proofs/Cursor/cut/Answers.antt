@@ -16,25 +16,22 @@ returns-then-count-length c =
 
 pub overflow_add-result : goal.overflow_add-result
 overflow_add-result c =
-    let known = c in
-    let args = known.args in
+    let args = c.args in
     let ws = words_of args.left.now in
     let b : raw_of (words_of c.front.result.now) < 2147483648 =
-    rw c.front.ensures.words (raw_below _ (below_take args.len ws (omega arith) (words_below args.left.now (λ i. omega (arith, known.type_inv.left i))))) in
+    rw c.front.ensures.words (raw_below _ (below_take args.len ws (omega arith) (words_below args.left.now (λ i. omega (arith, c.type_inv.left i))))) in
     omega arith
 
 pub overflow_add-result-2 : goal.overflow_add-result-2
 overflow_add-result-2 c =
-    let known = c in
-    let args = known.args in
+    let args = c.args in
     let ws = words_of args.left.now in
     let b : raw_of (words_of c.front.result.now) < 2147483648 =
-    rw c.front.ensures.words (raw_below _ (below_take args.len ws (omega arith) (words_below args.left.now (λ i. omega (arith, known.type_inv.left i))))) in
+    rw c.front.ensures.words (raw_below _ (below_take args.len ws (omega arith) (words_below args.left.now (λ i. omega (arith, c.type_inv.left i))))) in
     omega arith
 
 pub returns : goal.returns
 unfolding stepped
 returns c =
-    let n = c in
-    let args = n.args in
-    simp (← n.count.ensures, le-ltb n.count.result args.len (omega arith), ← c.word-header.ensures, ← c.front.ensures.words, ← c.raw_words-raw.ensures) refl
+    let args = c.args in
+    simp (← c.count.ensures, le-ltb c.count.result args.len (omega arith), ← c.word-header.ensures, ← c.front.ensures.words, ← c.raw_words-raw.ensures) refl

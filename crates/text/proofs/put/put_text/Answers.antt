@@ -6,5 +6,4 @@ use Rattle.text.proofs.put.put_text.Goals as goal
 
 pub loop-i-preserved : goal.loop-i-preserved
 loop-i-preserved c =
-    let at = c in
-    (search rules, search rules, text_is (push _ at.loop-i.invariant.2 (omega arith)) (map_more shown at.args.src.now _ _ c.loop-i-test.true c.show.ensures))
+    (search rules, search rules, text_is (push _ c.loop-i.invariant.2 (omega arith)) (map_more shown c.args.src.now _ _ c.loop-i-test.true c.show.ensures))

@@ -13,20 +13,13 @@ returns-then-f-eq0 c = let f = c.args.f in simp (eq-eqb f 0 (omega arith)) (at_m
 pub returns-then-f-eq0-2 : goal.returns-then-f-eq0-2
 unfolding fraction
 returns-then-f-eq0-2 c =
-    let c2 = c in
-    let c1 = c2 in
-    let s = c1 in
-    let f = s.args.f in
-    simp (ne_eqb f 0 s.if-f-eq0.false, eq-eqb (f % 10) 0 (omega arith))
-    (at_most (c1.put_byte-a.ensures then c2.put_digit.ensures) (search rules))
+    let f = c.args.f in
+    simp (ne_eqb f 0 c.if-f-eq0.false, eq-eqb (f % 10) 0 (omega arith))
+    (at_most (c.put_byte-a.ensures then c.put_digit.ensures) (search rules))
 
 pub returns : goal.returns
 unfolding fraction
 returns c =
-    let c3 = c in
-    let c2 = c3 in
-    let c1 = c2 in
-    let s = c1 in
-    let f = s.args.f in
-    simp (ne_eqb f 0 s.if-f-eq0.false, ne_eqb (f % 10) 0 (λ z. c3.if-f-eq0-2.false (omega arith)))
-    (at_most (c1.put_byte-a.ensures then c2.put_digit.ensures then c3.put_digit-2.ensures) (search rules))
+    let f = c.args.f in
+    simp (ne_eqb f 0 c.if-f-eq0.false, ne_eqb (f % 10) 0 (λ z. c.if-f-eq0-2.false (omega arith)))
+    (at_most (c.put_byte-a.ensures then c.put_digit.ensures then c.put_digit-2.ensures) (search rules))

@@ -5,7 +5,4 @@ use Rattle.units.proofs.level.put_fixed.Goals as goal
 pub returns : goal.returns
 unfolding fixed
 returns c =
-    let c3 = c in
-    let c2 = c3 in
-    let c1 = c2 in
-    c1.put_short-a.ensures then c2.put_byte.ensures then c3.put_digit.ensures
+    c.put_short-a.ensures then c.put_byte.ensures then c.put_digit.ensures

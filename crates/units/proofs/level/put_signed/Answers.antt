@@ -8,21 +8,14 @@ use Rattle.units.proofs.level.put_signed.Goals as goal
 
 pub returns-then-v-lt0 : goal.returns-then-v-lt0
 returns-then-v-lt0 c =
-    let c₂ = c in
-    let c₁ = c₂ in
-    let m = c₁ in
-    let s = m in
-    let back = to_z-of_z s.ranges.v in
-    text_is {u = signed_fixed s.args.v} (c₁.put_byte-a.ensures then c₂.put_fixed.ensures)
-    (text_negative s.args.v m.magnitude-n.result _ refl (rw back at c₁.if-v-lt0.true) (rw back at m.magnitude-n.ensures.0))
+    let back = to_z-of_z c.ranges.v in
+    text_is {u = signed_fixed c.args.v} (c.put_byte-a.ensures then c.put_fixed.ensures)
+    (text_negative c.args.v c.magnitude-n.result _ refl (rw back at c.if-v-lt0.true) (rw back at c.magnitude-n.ensures.0))
 
 pub returns-else-v-lt0 : goal.returns-else-v-lt0
 returns-else-v-lt0 c =
-    let c₁ = c in
-    let m = c₁ in
-    let s = m in
-    let back = to_z-of_z s.ranges.v in
+    let back = to_z-of_z c.ranges.v in
     at_most
-    (text_is c₁.put_fixed-else-v-lt0.ensures
-    (text_positive s.args.v m.magnitude-n.result (rw back at c₁.if-v-lt0.false) (rw back at m.magnitude-n.ensures.0)))
+    (text_is c.put_fixed-else-v-lt0.ensures
+    (text_positive c.args.v c.magnitude-n.result (rw back at c.if-v-lt0.false) (rw back at c.magnitude-n.ensures.0)))
     (search rules)
