@@ -12,12 +12,10 @@ use borrow.Author.Tests.{eqb-true}
 use Rattle.words.specs.Words.{low, words_of}
 use Rattle.file_walk.specs.declared.Cursor.{Cursor}
 use Rattle.file_walk.specs.declared.Stop.{Stop}
-use Rattle.file_walk.specs.declared.Step.{Step}
-use Rattle.file_walk.specs.declared.Step.TheVariants.{Block, Over}
+use Rattle.file_walk.specs.declared.Block.{Block}
 use Rattle.file_walk.specs.Walk.{cut, front_of, raw_of, step_at, Walk, Part, parts_of}
 use Rattle.file_walk.proofs.Steps.{walk_from, walk_start, walk_over, step_block}
 use Rattle.file_read.proofs.Places.{block_at_lem}
-use Rattle.file_rules.specs.declared.Tested.TheVariants.{Good}
 use Rattle.file_rules.specs.Block.{kept}
 use Rattle.file_rules.specs.Slim.{Slim}
 use Rattle.words.proofs.Choice.{cond_second}
@@ -27,7 +25,6 @@ use Rattle.file_order.specs.Setup.{no_setup, row_for, slim_of, learnt}
 use Rattle.file_order.proofs.KnownLaws.{id_in_lem, learnt_raw}
 use Rattle.file_order.specs.Order.{key_of, due_after}
 use Rattle.call_check.specs.declared.judge.State.{State}
-use Rattle.call_check.specs.declared.judge.Judged.TheVariants.{Passed}
 use Rattle.call_check.specs.Starts.{absent, place_count, place_of}
 use Rattle.call_check.specs.Judge.{first_state, skipped, entered, entered_by, judge, misfit, surveyed}
 use Rattle.call_check.specs.Slims.{slim_part, slims, slims_in, no_slim, slims_from}
@@ -37,6 +34,8 @@ use Rattle.call_check.proofs.Late.{Same, read_by}
 use Rattle.call_check.proofs.Onward.{no_fuel, Passes, passes, known_through, slims_over, slims_block, Onward}
 use Rattle.call_check.proofs.Numbered.{key_id, entered_due}
 use Rattle.call_check.proofs.Seen.{no_denied, Through, unlisted, listed, closed_passed}
+use Rattle.std.specs.declared.result.Result.TheVariants.{Ok, Err}
+use Rattle.std.specs.declared.result.Result.{Result}
 
 -- the first of some slim blocks
 abbrev pub first : List Slim → Slim
@@ -49,7 +48,7 @@ pub record There (ws : List ℕ) (last : Setup) (place start : ℕ) (b raw : Lis
   pub place_is : place_of (low (get_or b 0 0)) ≡ place
   pub row_is : (kind_of (low (get_or b 0 0))).listed ≡ true
   pub setup : Setup
-  pub good : kept (row_for setup (get_or b 0 0)) b ≡ Good
+  pub good : kept (row_for setup (get_or b 0 0)) b ≡ Ok tt
   pub by_last : 6 ≤ key_of (get_or b 0 0) → Same setup last
   pub more : List Slim
   pub split : xs ≡ slim_of setup b raw ∷ more
@@ -69,7 +68,7 @@ pub data Found (ws : List ℕ) (last : Setup) (place start : ℕ) (xs : List Sli
 step_there : (ws : List ℕ) (place : ℕ) (s last : State) (m start len : ℕ) (next : Cursor) (p : Passes ws m s last start len next)
     → next ≡ record { at = start + (len + raw_of (take len (drop start ws))); last = start }
     → place_of (low (get_or (take len (drop start ws)) 0 0)) ≡ place → (kind_of (low (get_or (take len (drop start ws)) 0 0))).listed ≡ true
-    → kept (row_for s.setup (get_or (take len (drop start ws)) 0 0)) (take len (drop start ws)) ≡ Good → entered_by s start (take len (drop start ws)) ≡ p.state
+    → kept (row_for s.setup (get_or (take len (drop start ws)) 0 0)) (take len (drop start ws)) ≡ Ok tt → entered_by s start (take len (drop start ws)) ≡ p.state
     → (xs : List Slim) → xs ≡ slim_of s.setup (take len (drop start ws)) (take (raw_of (take len (drop start ws))) (drop (start + len) ws)) ∷ slims p.state.setup (parts_of (walk_from m ws next))
     → There ws last.setup place start (block_at ws start) (raw_at ws start) xs
 unfolding raw_at entered entered_by
@@ -87,7 +86,7 @@ step_there ws place s last m start len next p next-is at l g e xs split =
       row_is = l;
       setup = s.setup;
       good = g;
-      by_last = λ h. read_by s last start b (walk_from m ws next) (subst⁻¹ (λ (st : State). judge st (walk_from m ws next) ≡ Passed last) e p.goes) h;
+      by_last = λ h. read_by s last start b (walk_from m ws next) (subst⁻¹ (λ (st : State). judge st (walk_from m ws next) ≡ Ok last) e p.goes) h;
       more = slims p.state.setup (parts_of (walk_from m ws next));
       split = split;
       on =
@@ -105,11 +104,11 @@ step_there ws place s last m start len next p next-is at l g e xs split =
 module _ (ws : List ℕ) (place : ℕ) (small : place < place_count) where
   -- the blocks from a cursor on, up to the end of an accepted file
   abbrev Later : ℕ → Type 0
-  Later m = (c : Cursor) (s last : State) (xs : List Slim) → Found ws last.setup place (start_at place s.starts) xs → judge s (walk_from m ws c) ≡ Passed last
+  Later m = (c : Cursor) (s last : State) (xs : List Slim) → Found ws last.setup place (start_at place s.starts) xs → judge s (walk_from m ws c) ≡ Ok last
       → Found ws last.setup place (start_at place last.starts) (slims_from place xs (slims s.setup (parts_of (walk_from m ws c))))
 
-  found_over : (m : ℕ) (c : Cursor) (s last : State) (xs : List Slim) (stop : Stop) → step_at ws c ≡ Over stop → Found ws last.setup place (start_at place s.starts) xs
-      → judge s (walk_from (suc m) ws c) ≡ Passed last → Found ws last.setup place (start_at place last.starts) (slims_from place xs (slims s.setup (parts_of (walk_from (suc m) ws c))))
+  found_over : (m : ℕ) (c : Cursor) (s last : State) (xs : List Slim) (stop : Stop) → step_at ws c ≡ Err stop → Found ws last.setup place (start_at place s.starts) xs
+      → judge s (walk_from (suc m) ws c) ≡ Ok last → Found ws last.setup place (start_at place last.starts) (slims_from place xs (slims s.setup (parts_of (walk_from (suc m) ws c))))
   unfolding judge slims_from
   found_over m c s last xs stop q h e =
       let same = closed_passed s last stop (sym (ap (judge s) (walk_over m ws c stop q)) ∙ e) in
@@ -121,57 +120,57 @@ module _ (ws : List ℕ) (place : ℕ) (small : place < place_count) where
   unfolding slim_part slims_from
   slims_next k p ys xs l = rw (l, id_in_lem k p.words p.raw) refl
 
-  found_block : (m : ℕ) → Later m → (c : Cursor) (s last : State) (xs : List Slim) (id nn start len : ℕ) (next : Cursor) → step_at ws c ≡ Block id nn start len next
-      → Found ws last.setup place (start_at place s.starts) xs → judge s (walk_from (suc m) ws c) ≡ Passed last
+  found_block : (m : ℕ) → Later m → (c : Cursor) (s last : State) (xs : List Slim) (f : Block) → step_at ws c ≡ Ok f
+      → Found ws last.setup place (start_at place s.starts) xs → judge s (walk_from (suc m) ws c) ≡ Ok last
       → Found ws last.setup place (start_at place last.starts) (slims_from place xs (slims s.setup (parts_of (walk_from (suc m) ws c))))
   unfolding slim_part skipped entered entered_by part_at
-  found_block m later c s last xs id nn start len next q h e =
-      rw (slims_block m ws c s.setup id nn start len next q, ← known_through s p.state start (part_at ws start len) p.through) (go p.through)
+  found_block m later c s last xs f q h e =
+      rw (slims_block m ws c s.setup f q, ← known_through s p.state f.start (part_at ws f.start f.length) p.through) (go p.through)
     where
-      p : Passes ws m s last start len next
-      p = passes ws m c s last id nn start len next q e
+      p : Passes ws m s last f.start f.length f.next
+      p = passes ws m c s last f q e
 
       b : List ℕ
-      b = take len (drop start ws)
+      b = take f.length (drop f.start ws)
 
       ys : List Slim
-      ys = slims p.state.setup (parts_of (walk_from m ws next))
+      ys = slims p.state.setup (parts_of (walk_from m ws f.next))
 
       x : Slim
-      x = slim_of s.setup b (take (raw_of b) (drop (start + len) ws))
+      x = slim_of s.setup b (take (raw_of b) (drop (f.start + f.length) ws))
 
       -- the start and the slim blocks after a listed block
-      next_found : (kind_of (low (get_or b 0 0))).listed ≡ true → kept (row_for s.setup (get_or b 0 0)) b ≡ Good → entered_by s start b ≡ p.state
-          → (t : Bool) → eqb (place_of (low (get_or b 0 0))) place ≡ t → Found ws last.setup place (cond t start (start_at place s.starts)) (cond t (x ∷ ys) xs)
-      next_found l g f false i = h
-      next_found l g f true i =
-          let n = step_block ws c id nn start len next q in
-          there (step_there ws place s last m start len next p (ap₂ (λ (a o : ℕ). record { at = a; last = o }) n.on n.last_is) (eqb-true _ place i) l g f (x ∷ ys) refl)
+      next_found : (kind_of (low (get_or b 0 0))).listed ≡ true → kept (row_for s.setup (get_or b 0 0)) b ≡ Ok tt → entered_by s f.start b ≡ p.state
+          → (t : Bool) → eqb (place_of (low (get_or b 0 0))) place ≡ t → Found ws last.setup place (cond t f.start (start_at place s.starts)) (cond t (x ∷ ys) xs)
+      next_found l g r false i = h
+      next_found l g r true i =
+          let n = step_block ws c f q in
+          there (step_there ws place s last m f.start f.length f.next p (ap₂ (λ (a o : ℕ). record { at = a; last = o }) n.on n.last_is) (eqb-true _ place i) l g r (x ∷ ys) refl)
 
-      go : Through s start b p.state → Found ws last.setup place (start_at place last.starts) (slims_from place xs (slim_part s.setup (part_at ws start len) ++ ys))
-      go (unlisted l f) = rw l (later next p.state last xs (subst (λ (st : State). Found ws last.setup place (start_at place st.starts) xs) f h) p.goes)
-      go (listed l d g f) =
-          rw (slims_next s.setup (part_at ws start len) ys xs l)
-          (later next p.state last (cond (eqb (place_of (low (get_or b 0 0))) place) (x ∷ ys) xs)
-          (subst (λ (st : State). Found ws last.setup place (start_at place st.starts) (cond (eqb (place_of (low (get_or b 0 0))) place) (x ∷ ys) xs)) f
-          (rw (start_noted place small s.starts (low (key_of (get_or b 0 0))) start, key_id (get_or b 0 0)) (next_found l g f (eqb (place_of (low (get_or b 0 0))) place) refl)))
+      go : Through s f.start b p.state → Found ws last.setup place (start_at place last.starts) (slims_from place xs (slim_part s.setup (part_at ws f.start f.length) ++ ys))
+      go (unlisted l r) = rw l (later f.next p.state last xs (subst (λ (st : State). Found ws last.setup place (start_at place st.starts) xs) r h) p.goes)
+      go (listed l d g r) =
+          rw (slims_next s.setup (part_at ws f.start f.length) ys xs l)
+          (later f.next p.state last (cond (eqb (place_of (low (get_or b 0 0))) place) (x ∷ ys) xs)
+          (subst (λ (st : State). Found ws last.setup place (start_at place st.starts) (cond (eqb (place_of (low (get_or b 0 0))) place) (x ∷ ys) xs)) r
+          (rw (start_noted place small s.starts (low (key_of (get_or b 0 0))) f.start, key_id (get_or b 0 0)) (next_found l g r (eqb (place_of (low (get_or b 0 0))) place) refl)))
           p.goes)
 
   found_judged : (m : ℕ) → Later m
   found_judged zero c s last xs h e = absurd (no_fuel ws s last c e)
   found_judged (suc m) c s last xs h e = go (step_at ws c) refl (found_judged m)
     where
-      go : (y : Step) → step_at ws c ≡ y → Later m → Found ws last.setup place (start_at place last.starts) (slims_from place xs (slims s.setup (parts_of (walk_from (suc m) ws c))))
-      go (Over stop) q later = found_over m c s last xs stop q h e
-      go (Block id nn start len next) q later = found_block m later c s last xs id nn start len next q h e
+      go : (y : Result Block Stop) → step_at ws c ≡ y → Later m → Found ws last.setup place (start_at place last.starts) (slims_from place xs (slims s.setup (parts_of (walk_from (suc m) ws c))))
+      go (Err stop) q later = found_over m c s last xs stop q h e
+      go (Ok f) q later = found_block m later c s last xs f q h e
 
 -- ---- the law, for every id that has a place
 
-pub found : (file : List ℕ) (s : State) → surveyed file ≡ Passed s → (id : ℕ) → place_of id < place_count
+pub found : (file : List ℕ) (s : State) → surveyed file ≡ Ok s → (id : ℕ) → place_of id < place_count
     → Found (words_of file) s.setup (place_of id) (start_of id s.starts) (slims_from (place_of id) [] (slims_in file))
 unfolding surveyed slims_in start_of
 found file s e id h =
     let ws = words_of file in
-    let start : judge first_state (walk_from (suc (length ws)) ws (record { at = 0; last = 0 })) ≡ Passed s = ap (judge first_state) (walk_start ws) ∙ (cond_second (misfit file) e no_denied).1 in
+    let start : judge first_state (walk_from (suc (length ws)) ws (record { at = 0; last = 0 })) ≡ Ok s = ap (judge first_state) (walk_start ws) ∙ (cond_second (misfit file) e no_denied).1 in
     subst (λ (w : Walk). Found ws s.setup (place_of id) (start_at (place_of id) s.starts) (slims_from (place_of id) [] (slims no_setup (parts_of w)))) (walk_start ws)
     (found_judged ws (place_of id) h (suc (length ws)) (record { at = 0; last = 0 }) first_state s [] (nowhere (none_noted (place_of id) h) refl) start)

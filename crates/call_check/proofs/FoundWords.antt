@@ -19,12 +19,12 @@ use Rattle.file_order.specs.declared.setup.Setup.{Setup}
 use Rattle.file_order.specs.Setup.{row_for, slim_of}
 use Rattle.file_tables.proofs.TableLaws.{Plain, Three}
 use Rattle.call_check.specs.declared.judge.State.{State}
-use Rattle.call_check.specs.declared.judge.Judged.TheVariants.{Passed}
 use Rattle.call_check.specs.Starts.{place_of}
 use Rattle.call_check.specs.Judge.{misfit, surveyed}
 use Rattle.call_check.proofs.StartLaws.{own, own_id}
 use Rattle.call_check.proofs.Found.{first, slim_there, Found, there, nowhere}
 use Rattle.call_check.proofs.Seen.{no_denied}
+use Rattle.std.specs.declared.result.Result.TheVariants.{Ok}
 
 no_raw_at : (ws : List ℕ) (at : ℕ) → length ws ≤ at → raw_at ws at ≡ []
 unfolding raw_at raw_of
@@ -62,12 +62,12 @@ module _ {ws : List ℕ} (few : length ws ≤ 32768) {last : Setup} {start : ℕ
   found_raw place (nowhere a n) = rw (n, no_raw_at ws start (omega arith))
 
 -- an accepted file has an even number of bytes, and 65,536 at most
-pub accepted_fits : (file : List ℕ) (s : State) → surveyed file ≡ Passed s → (length file % 2 ≡ 0) × (length file ≤ 65536)
+pub accepted_fits : (file : List ℕ) (s : State) → surveyed file ≡ Ok s → (length file % 2 ≡ 0) × (length file ≤ 65536)
 unfolding surveyed misfit
 accepted_fits file s e =
     let fits = or_neither (eqb (length file % 2) 1) (ltb 65536 (length file)) (cond_second (misfit file) e no_denied).0 in
     (omega (arith, eqb-false (length file % 2) 1 fits.0), ltb-false 65536 (length file) fits.1)
 
 -- so it has 32,768 words at most
-pub accepted_few : (file : List ℕ) (s : State) → surveyed file ≡ Passed s → length (words_of file) ≤ 32768
+pub accepted_few : (file : List ℕ) (s : State) → surveyed file ≡ Ok s → length (words_of file) ≤ 32768
 accepted_few file s e = omega (arith, words_length file, (accepted_fits file s e).1)

@@ -19,11 +19,12 @@ use Rattle.file_order.specs.Order.{key_of, is_due, passed_over, due_after_profil
 use Rattle.file_order.proofs.KnownLaws.{id_in_lem}
 use Rattle.file_order.proofs.OrderLaws.{after_passes}
 use Rattle.call_check.specs.declared.judge.State.{State}
-use Rattle.call_check.specs.declared.judge.Judged.{Judged}
-use Rattle.call_check.specs.declared.judge.Judged.TheVariants.{Passed, Refused}
 use Rattle.call_check.specs.Judge.{skipped, entered, entered_by, seen_in, judge}
 use Rattle.call_check.proofs.Turns.{judge_pass, judge_deny}
 use Rattle.call_check.proofs.Seen.{no_denied, Through, unlisted, listed, seen_through, closed_passed}
+use Rattle.file_refusal.specs.declared.Refusal.{Refusal}
+use Rattle.std.specs.declared.result.Result.TheVariants.{Ok, Err}
+use Rattle.std.specs.declared.result.Result.{Result}
 
 -- all that is known but the numbers of classes
 pub record Same (s t : Setup) : Type 0 where
@@ -87,7 +88,7 @@ same_left s b raw h =
 abbrev Goes : State → State → Type 0
 Goes s st = Past st.due × Same st.setup s.setup
 
-stays : (w : Walk) (s s' : State) → Past s.due → judge s w ≡ Passed s' → Same s'.setup s.setup
+stays : (w : Walk) (s s' : State) → Past s.due → judge s w ≡ Ok s' → Same s'.setup s.setup
 unfolding judge skipped entered entered_by
 stays (over stop) s s' p e = subst (λ (st : State). Same st.setup s.setup) (closed_passed s s' stop e) (record { model = refl; function = refl; bands = refl; profiles = refl })
 stays (block at b raw w) s s' p e = go (seen_in s at b) refl (stays w)
@@ -98,14 +99,14 @@ stays (block at b raw w) s s' p e = go (seen_in s at b) refl (stays w)
         let h = due_late s.due (key_of (get_or b 0 0)) p d in
         subst (Goes s) q (after_past (learnt s.setup (slim_of s.setup b [])) (key_of (get_or b 0 0)) h, same_left s.setup b [] h)
 
-    go : (j : Judged) → seen_in s at b ≡ j → ((s s' : State) → Past s.due → judge s w ≡ Passed s' → Same s'.setup s.setup) → Same s'.setup s.setup
-    go (Refused x) q ih = absurd (no_denied (sym (judge_deny s at b raw w q) ∙ e))
-    go (Passed s₁) q ih =
+    go : (j : Result State Refusal) → seen_in s at b ≡ j → ((s s' : State) → Past s.due → judge s w ≡ Ok s' → Same s'.setup s.setup) → Same s'.setup s.setup
+    go (Err x) q ih = absurd (no_denied (sym (judge_deny s at b raw w q) ∙ e))
+    go (Ok s₁) q ih =
         let t = through s₁ (seen_through s at b s₁ q) in
         same_on t.1 (ih s₁ s' t.0 (sym (judge_pass s at b raw w s₁ q) ∙ e))
 
 -- what a block after 05 is read by is what is known at the end
-pub read_by : (s s' : State) (at : ℕ) (b : List ℕ) (w : Walk) → judge (entered_by s at b) w ≡ Passed s' → 6 ≤ key_of (get_or b 0 0) → Same s.setup s'.setup
+pub read_by : (s s' : State) (at : ℕ) (b : List ℕ) (w : Walk) → judge (entered_by s at b) w ≡ Ok s' → 6 ≤ key_of (get_or b 0 0) → Same s.setup s'.setup
 unfolding entered entered_by
 read_by s s' at b w e h =
     same_back (same_on (same_left s.setup b [] h) (stays w (entered_by s at b) s' (after_past (learnt s.setup (slim_of s.setup b [])) (key_of (get_or b 0 0)) h) e))

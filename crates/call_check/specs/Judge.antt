@@ -1,22 +1,19 @@
 -- The walk judged block by block: the first fault in file order, or what is known at the end (document 01, Refusal numbers).
-use Rattle.std.specs.Prelude.{Bool, cond, ◌||◌, List, [], ℕ, ◌+◌, ◌%◌, eqb, ltb, length, get_or}
+use Rattle.std.specs.Prelude.{Bool, cond, ◌||◌, List, [], ℕ, ◌+◌, ◌%◌, eqb, ltb, length, get_or, Result, Ok, Err, ⊤}
 use Rattle.words.specs.Words.{low, words_of}
 use Rattle.file_refusal.specs.Refusal.{refusal}
 use Rattle.file_walk.specs.declared.Stop.{Stop}
 use Rattle.file_walk.specs.declared.Stop.TheVariants.{End}
 use Rattle.file_walk.specs.Walk.{Walk, over, block, walked, end_marker}
 use Rattle.file_rules.specs.declared.Row.{Row}
-use Rattle.file_rules.specs.declared.Tested.{Tested}
-use Rattle.file_rules.specs.declared.Tested.TheVariants.{Good}
 use Rattle.file_rules.specs.Block.{kept, offset_by}
 use Rattle.file_order.specs.declared.setup.Setup.{Setup}
 use Rattle.file_order.specs.declared.order.Due.{Due}
 use Rattle.call_check.specs.declared.judge.State.{State}
-use Rattle.call_check.specs.declared.judge.Judged.{Judged}
-use Rattle.call_check.specs.declared.judge.Judged.TheVariants.{Passed}
 use Rattle.file_order.specs.Setup.{no_setup, slim_of, learnt, row_for}
 use Rattle.file_order.specs.Order.{key_of, only, is_due, passed_over, due_after}
 use Rattle.call_check.specs.Starts.{starts_of, noted}
+use Rattle.file_refusal.specs.declared.Refusal.{Refusal}
 
 abbrev pub first_state : State
 first_state = record { due = only 0x01; setup = no_setup; starts = starts_of [] }
@@ -34,39 +31,39 @@ unfoldable pub entered_by : State → ℕ → List ℕ → State
 entered_by s at b = entered s (key_of (get_or b 0 0)) at (learnt s.setup (slim_of s.setup b []))
 
 -- "order (4), long form not allowed or short (3), then words": a listed block, against what is due and its row
-unfoldable pub tested_by : Row → Due → List ℕ → Tested
-tested_by r d b = cond (is_due d (key_of (get_or b 0 0))) (kept r b) (Tested.Refused (refusal 4 0))
+unfoldable pub tested_by : Row → Due → List ℕ → Result ⊤ Refusal
+tested_by r d b = cond (is_due d (key_of (get_or b 0 0))) (kept r b) (Err (refusal 4 0))
 
 -- the state that a test lets through, or its refusal
-unfoldable pub judged_by : State → Tested → Judged
-judged_by s Good = Passed s
-judged_by s (Tested.Refused r) = Judged.Refused r
+unfoldable pub judged_by : State → Result ⊤ Refusal → Result State Refusal
+judged_by s (Ok tt) = Ok s
+judged_by s (Err r) = Err r
 
 -- a block that starts at word `at`
-unfoldable pub seen_by : Row → State → ℕ → List ℕ → Judged
+unfoldable pub seen_by : Row → State → ℕ → List ℕ → Result State Refusal
 seen_by r s at b =
     cond r.listed
     (judged_by (entered_by s at b) (offset_by at (tested_by r s.due b)))
-    (Passed (skipped s))
+    (Ok (skipped s))
 
-unfoldable pub seen_in : State → ℕ → List ℕ → Judged
+unfoldable pub seen_in : State → ℕ → List ℕ → Result State Refusal
 seen_in s at b = seen_by (row_for s.setup (get_or b 0 0)) s at b
 
 -- the end of the walk: "the end marker out of order" is 4, "a word after the end marker" 9 at the first such word
-unfoldable pub closed : State → Stop → Judged
+unfoldable pub closed : State → Stop → Result State Refusal
 closed s (End at left) =
-    cond (is_due s.due end_marker) (cond (eqb left 0) (Passed s) (Judged.Refused (refusal 9 (at + 1)))) (Judged.Refused (refusal 4 at))
-closed s (Stop.Refused r) = Judged.Refused r
+    cond (is_due s.due end_marker) (cond (eqb left 0) (Ok s) (Err (refusal 9 (at + 1)))) (Err (refusal 4 at))
+closed s (Stop.Refused r) = Err r
 
 -- the whole walk
-unfoldable pub judge : State → Walk → Judged
+unfoldable pub judge : State → Walk → Result State Refusal
 judge s (over stop) = closed s stop
-judge s (block at b raw w) = elim (seen_in s at b) [ Passed s' ↦ judge s' w | Judged.Refused r ↦ Judged.Refused r ]
+judge s (block at b raw w) = elim (seen_in s at b) [ Ok s' ↦ judge s' w | Err r ↦ Err r ]
 
 -- "byte length odd or over 65,536"
 unfoldable pub misfit : List ℕ → Bool
 misfit file = eqb (length file % 2) 1 || ltb 65536 (length file)
 
 -- "The order is 1; then file order"
-unfoldable pub surveyed : List ℕ → Judged
-surveyed file = cond (misfit file) (Judged.Refused (refusal 1 0)) (judge first_state (walked (words_of file)))
+unfoldable pub surveyed : List ℕ → Result State Refusal
+surveyed file = cond (misfit file) (Err (refusal 1 0)) (judge first_state (walked (words_of file)))

@@ -2,7 +2,7 @@
 ghost use Rattle.std.specs.Prelude.{◌≡◌};
 ghost use Rattle.call_check.specs.Check.{Checked};
 
-use crate::judge::{Judged, State, survey};
+use crate::judge::survey;
 use crate::starts::Starts;
 use file_refusal::Refusal;
 
@@ -13,22 +13,12 @@ pub struct Outline {
     pub starts: Starts,
 }
 
-#[derive(Clone, Copy)]
-pub enum Answer {
-    Accepted(Outline),
-    Refused(Refusal),
-}
-
 // Whether a file is accepted, with its outline, or its first fault.
-pub fn check(file: &[u8]) -> Answer
+pub fn check(file: &[u8]) -> Result<Outline, Refusal>
     ensures { Checked file.now result }
 {
-    match survey(file) {
-        Judged::Passed(state) => {
-            let function = state.setup.function;
-            let starts = state.starts;
-            Answer::Accepted(Outline { function, starts })
-        }
-        Judged::Refused(refusal) => Answer::Refused(refusal),
-    }
+    let state = survey(file)?;
+    let function = state.setup.function;
+    let starts = state.starts;
+    Ok(Outline { function, starts })
 }

@@ -3,15 +3,15 @@ ghost use Rattle.std.specs.Prelude.{◌≡◌, ◌<◌, ◌≤◌, length};
 ghost use Rattle.words.specs.Words.{words_of};
 ghost use Rattle.file_walk.specs.Walk.{walked};
 ghost use Rattle.call_check.specs.Judge.{first_state, skipped, entered_by, seen_in, closed, judge, surveyed};
-ghost use Rattle.call_check.specs.Steps.{judged_step, Ends, Near};
+ghost use Rattle.call_check.specs.Steps.{Ends};
 
 use crate::starts::Starts;
 use file_order::order::{Due, key_of};
 use file_order::setup::Setup;
 use file_refusal::Refusal;
-use file_rules::{Tested, keeps};
-use file_walk::{Cursor, Step, Stop};
-use words::{front, rest, word};
+use file_rules::keeps;
+use file_walk::{Cursor, Stop};
+use words::word;
 
 // What is known between two blocks.
 #[derive(Clone, Copy)]
@@ -19,13 +19,6 @@ pub struct State {
     pub due: Due,
     pub setup: Setup,
     pub starts: Starts,
-}
-
-// What became of a state: it goes on, or the file is refused.
-#[derive(Clone, Copy)]
-pub enum Judged {
-    Passed(State),
-    Refused(Refusal),
 }
 
 impl State {
@@ -43,13 +36,9 @@ impl State {
     fn skipped(self) -> State
         ensures { result ≡ skipped self }
     {
-        let due = self.due;
-        let setup = self.setup;
-        let starts = self.starts;
         State {
-            due: due.passed_over(),
-            setup,
-            starts,
+            due: self.due.passed_over(),
+            ..self
         }
     }
 
@@ -67,85 +56,69 @@ impl State {
         }
     }
 
-    // The block b, which starts at word `at`.
-    fn seen(self, b: &[u8], at: usize) -> Judged
+    // The block b, which starts at word `at`: the state after it, or its refusal.
+    fn seen(self, b: &[u8], at: usize) -> Result<State, Refusal>
         requires { at < 65536 }
         ensures { result ≡ seen_in self at (words_of b.now) }
     {
         let header = word(b, 0);
         let row = self.setup.row_for(header);
         if !row.listed {
-            return Judged::Passed(self.skipped());
+            return Ok(self.skipped());
         }
         if !self.due.has(key_of(header)) {
-            return Judged::Refused(Refusal { num: 4, at });
+            return Err(Refusal { num: 4, at });
         }
-        match keeps(b, at, row) {
-            Tested::Good => Judged::Passed(self.entered(b, at)),
-            Tested::Refused(refusal) => Judged::Refused(refusal),
-        }
+        keeps(b, at, row)?;
+        Ok(self.entered(b, at))
     }
 
     // The end of the walk.
-    fn closed(self, stop: Stop) -> Judged
+    fn closed(self, stop: Stop) -> Result<State, Refusal>
         requires { Ends stop }
         ensures { result ≡ closed self stop }
     {
         match stop {
             Stop::End { at, left } => {
                 if !self.due.has(0xFFFF) {
-                    return Judged::Refused(Refusal { num: 4, at });
+                    return Err(Refusal { num: 4, at });
                 }
                 if left != 0 {
-                    return Judged::Refused(Refusal { num: 9, at: at + 1 });
+                    return Err(Refusal { num: 9, at: at + 1 });
                 }
-                Judged::Passed(self)
+                Ok(self)
             }
-            Stop::Refused(refusal) => Judged::Refused(refusal),
-        }
-    }
-
-    // One step of the walk.
-    fn judged(self, file: &[u8], step: Step) -> Judged
-        requires { Near step }
-        ensures { result ≡ judged_step self (words_of file.now) step }
-    {
-        match step {
-            Step::Block { start, length, .. } => self.seen(front(rest(file, start), length), start),
-            Step::Over(stop) => self.closed(stop),
+            Stop::Refused(refusal) => Err(refusal),
         }
     }
 }
 
-fn judge_blocks(file: &[u8]) -> Judged
+fn judge_blocks(file: &[u8]) -> Result<State, Refusal>
     requires { length file.now ≤ 65536 }
     ensures { result ≡ judge first_state (walked (words_of file.now)) }
 {
     let mut cursor = Cursor::start();
     let mut state = State::first();
     loop {
-        let step = cursor.step(file);
-        let Step::Block { next, .. } = step else {
-            return state.judged(file, step);
-        };
-        let judged = state.judged(file, step);
-        let Judged::Passed(passed) = judged else {
-            return judged;
-        };
-        state = passed;
-        cursor = next;
+        match cursor.step(file) {
+            Ok(block) => {
+                state = state.seen(block.words(file), block.start)?;
+                cursor = block.next;
+            }
+            Err(stop) => return state.closed(stop),
+        }
     }
 }
 
 // The file's state at its end, or its first fault.
-pub fn survey(file: &[u8]) -> Judged
+pub fn survey(file: &[u8]) -> Result<State, Refusal>
     ensures { result ≡ surveyed file.now }
 {
     if file.len() % 2 == 1 {
-        return Judged::Refused(Refusal { num: 1, at: 0 });
+        return Err(Refusal { num: 1, at: 0 });
     }
     if 65536 < file.len() {
-        return Judged::Refused(Refusal { num: 1, at: 0 });
+        return Err(Refusal { num: 1, at: 0 });
     }
     judge_blocks(file)
 }

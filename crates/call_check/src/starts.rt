@@ -16,6 +16,7 @@ pub struct Starts {
     pub logger: u16,
 }
 
+// A number and no Option: the record has it, and C is given it (include/meter.h).
 pub const ABSENT: u16 = 65535;
 
 impl Starts {
@@ -57,20 +58,33 @@ impl Starts {
     pub fn noted(self, id: u16, at: u16) -> Starts
         ensures { result ≡ noted self id at }
     {
-        let mut s = self;
         match id {
-            0x01 => s.file = at,
-            0x02 => s.unit = at,
-            0x03 => s.title = at,
-            0x04 => s.setup = at,
-            0x05 => s.profiles = at,
-            0x07 => s.results = at,
-            0x0E => s.spectrum = at,
-            0x10 => s.spectrum = at,
-            0x09 => s.statistics = at,
-            0x0F => s.logger = at,
-            _ => {}
+            0x01 => Starts { file: at, ..self },
+            0x02 => Starts { unit: at, ..self },
+            0x03 => Starts { title: at, ..self },
+            0x04 => Starts { setup: at, ..self },
+            0x05 => Starts {
+                profiles: at,
+                ..self
+            },
+            0x07 => Starts {
+                results: at,
+                ..self
+            },
+            0x0E => Starts {
+                spectrum: at,
+                ..self
+            },
+            0x10 => Starts {
+                spectrum: at,
+                ..self
+            },
+            0x09 => Starts {
+                statistics: at,
+                ..self
+            },
+            0x0F => Starts { logger: at, ..self },
+            _ => self,
         }
-        s
     }
 }

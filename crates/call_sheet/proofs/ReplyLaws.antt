@@ -12,7 +12,6 @@ use Rattle.paging.specs.Fit.{joined, Filled}
 use Rattle.paging.proofs.FitLaws.{same_progress}
 use Rattle.file_refusal.specs.{declared.Refusal.Refusal, Refusal.refusal}
 use Rattle.call_check.specs.declared.judge.State.{State}
-use Rattle.call_check.specs.declared.judge.Judged.{Judged}
 use Rattle.call_check.specs.Judge.{surveyed}
 use Rattle.call_check.specs.Slims.{slims_in}
 use Rattle.sheet_page.specs.Rows.{texts}
@@ -23,9 +22,10 @@ use Rattle.paging.specs.declared.run.Run.{Run}
 use Rattle.paging.specs.Run.{start_run, progress_of, Running, Continued}
 use Rattle.paging.proofs.FilledLaws.{filled_few}
 use Rattle.paging.proofs.RunLaws.{begin, lines_are}
-use Rattle.call_sheet.specs.declared.Reply.{Reply}
-use Rattle.call_sheet.specs.declared.Reply.TheVariants.{Written}
 use Rattle.call_sheet.specs.Reply.{progress_in, asked_for, replied, sheet_reply, output_by, values, Sheeted}
+use Rattle.file_refusal.specs.declared.Refusal.{Refusal}
+use Rattle.std.specs.declared.result.Result.TheVariants.{Ok, Err}
+use Rattle.std.specs.declared.result.Result.{Result}
 
 -- ---- section after section
 
@@ -59,7 +59,7 @@ module _ (file label : List ℕ) (n : ℕ) {d e : List ℕ} where
       (all.goes n [] d (subst (λ (r : Run). Running n [] d d r) (sym s) (begin n d))).filled
 
   -- it has few lines
-  pub ran_few : (s : State) → surveyed file ≡ Judged.Passed s → {p : Progress} → Filled (drop n (sheet_texts file label)) d e p → p.lines < 4294967296
+  pub ran_few : (s : State) → surveyed file ≡ Ok s → {p : Progress} → Filled (drop n (sheet_texts file label)) d e p → p.lines < 4294967296
   ran_few s p f = omega (arith, filled_few f, length-drop n (sheet_texts file label), sheet_few file label s p)
 
 -- ---- the cases
@@ -73,26 +73,26 @@ filled_is {ls} {d} {p = p} f =
 
 module _ (file label : List ℕ) (n : ℕ) (before after : List ℕ) where
   -- the answer and the output of a reply
-  as_replied : (r : Reply) → sheet_reply file label n (length before) ≡ r → after ≡ output_by (drop n (sheet_texts file label)) before r → Sheeted file label n before after r
+  as_replied : (r : Result Progress Refusal) → sheet_reply file label n (length before) ≡ r → after ≡ output_by (drop n (sheet_texts file label)) before r → Sheeted file label n before after r
   as_replied r e o = record { answer_is = ap values (sym e); output_is = o ∙ ap (output_by (drop n (sheet_texts file label)) before) (sym e) }
 
-  pub sheeted_denied : (x : Refusal) → surveyed file ≡ Judged.Refused x → after ≡ before → Sheeted file label n before after (Reply.Refused x)
+  pub sheeted_denied : (x : Refusal) → surveyed file ≡ Err x → after ≡ before → Sheeted file label n before after (Err x)
   unfolding sheet_reply replied output_by
-  sheeted_denied x e o = as_replied (Reply.Refused x) (rw e) o
+  sheeted_denied x e o = as_replied (Err x) (rw e) o
 
-  module _ (s : State) (e : surveyed file ≡ Judged.Passed s) where
-    pub sheeted_label : 507 < length label → after ≡ before → Sheeted file label n before after (Reply.Refused (refusal 10 0))
+  module _ (s : State) (e : surveyed file ≡ Ok s) where
+    pub sheeted_label : 507 < length label → after ≡ before → Sheeted file label n before after (Err (refusal 10 0))
     unfolding sheet_reply replied asked_for output_by
     sheeted_label h o = as_replied _ (rw (e, lt-ltb 507 (length label) h)) o
 
-    pub sheeted_room : length label ≤ 507 → length before < 1024 → after ≡ before → Sheeted file label n before after (Reply.Refused (refusal 11 0))
+    pub sheeted_room : length label ≤ 507 → length before < 1024 → after ≡ before → Sheeted file label n before after (Err (refusal 11 0))
     unfolding sheet_reply replied asked_for output_by
     sheeted_room h l o = as_replied _ (rw (e, le-ltb 507 (length label) h, lt-ltb (length before) 1024 l)) o
 
-    pub sheeted_written : (p : Progress) → length label ≤ 507 → 1024 ≤ length before → Filled (drop n (sheet_texts file label)) before after p → Sheeted file label n before after (Written p)
+    pub sheeted_written : (p : Progress) → length label ≤ 507 → 1024 ≤ length before → Filled (drop n (sheet_texts file label)) before after p → Sheeted file label n before after (Ok p)
     unfolding sheet_reply replied asked_for output_by
     sheeted_written p h l f =
-        as_replied (Written p) (rw (e, le-ltb 507 (length label) h, le-ltb (length before) 1024 l) (ap Written (sym (filled_is f)))) f.wrote.out
+        as_replied (Ok p) (rw (e, le-ltb 507 (length label) h, le-ltb (length before) 1024 l) (ap Ok (sym (filled_is f)))) f.wrote.out
 
 -- ---- one answer
 
@@ -102,17 +102,17 @@ flag_one true false e = absurd (omega arith)
 flag_one false true e = absurd (omega arith)
 flag_one false false e = refl
 
-pub values_one : (a b : Reply) → values a ≡ values b → a ≡ b
+pub values_one : (a b : Result Progress Refusal) → values a ≡ values b → a ≡ b
 unfolding values
-values_one (Written p) (Written q) e =
+values_one (Ok p) (Ok q) e =
     let lines : p.lines ≡ q.lines = cc in
     let bytes : p.bytes ≡ q.bytes = cc in
     let flag : ◌≡◌ {A = ℕ} (cond p.finished 1 0) (cond q.finished 1 0) = cc in
-    ap Written (same_progress lines bytes (flag_one p.finished q.finished flag))
-values_one (Written p) (Reply.Refused x) e = let z : length (values (Written p)) ≡ length (values (Reply.Refused x)) = ap length e in absurd (omega arith)
-values_one (Reply.Refused x) (Written p) e = let z : length (values (Reply.Refused x)) ≡ length (values (Written p)) = ap length e in absurd (omega arith)
-values_one (Reply.Refused x) (Reply.Refused y) e = ap (λ (vs : List ℕ). Reply.Refused (refusal (get_or vs 0 0) (get_or vs 1 0))) e
+    ap Ok (same_progress lines bytes (flag_one p.finished q.finished flag))
+values_one (Ok p) (Err x) e = let z : length (values (Ok p)) ≡ length (values (Err x)) = ap length e in absurd (omega arith)
+values_one (Err x) (Ok p) e = let z : length (values (Err x)) ≡ length (values (Ok p)) = ap length e in absurd (omega arith)
+values_one (Err x) (Err y) e = ap (λ (vs : List ℕ). Err (refusal (get_or vs 0 0) (get_or vs 1 0))) e
 
 -- two answers to one file, label, line number and output are the same, and leave the same bytes
-pub sheeted_one : {file label : List ℕ} {n : ℕ} {before a b : List ℕ} {r q : Reply} → Sheeted file label n before a r → Sheeted file label n before b q → (r ≡ q) × (a ≡ b)
+pub sheeted_one : {file label : List ℕ} {n : ℕ} {before a b : List ℕ} {r q : Result Progress Refusal} → Sheeted file label n before a r → Sheeted file label n before b q → (r ≡ q) × (a ≡ b)
 sheeted_one {r = r} {q} s t = (values_one r q (s.answer_is ∙ sym t.answer_is), s.output_is ∙ sym t.output_is)

@@ -14,39 +14,39 @@ use Rattle.paging.specs.Fit.{fit}
 use Rattle.paging.proofs.FitLaws.{fit_fits}
 use Rattle.file_refusal.specs.{declared.Refusal.Refusal, Refusal.refusal}
 use Rattle.call_check.specs.declared.judge.State.{State}
-use Rattle.call_check.specs.declared.judge.Judged.{Judged}
 use Rattle.call_check.specs.Judge.{surveyed}
 use Rattle.sheet_page.specs.Sheet.{sheet_texts}
 use Rattle.sheet_page.specs.Limits.{Short}
 use Rattle.sheet_page.proofs.Shortness.{lines_short}
 use Rattle.sheet_page.proofs.Fewness.{sheet_few}
 use Rattle.paging.proofs.FilledLaws.{fit_le}
-use Rattle.call_sheet.specs.declared.Reply.{Reply}
-use Rattle.call_sheet.specs.declared.Reply.TheVariants.{Written}
 use Rattle.call_sheet.specs.Reply.{progress_in, asked_for, replied, sheet_reply, Sheeted}
 use Rattle.call_sheet.proofs.ReplyLaws.{values_one}
+use Rattle.file_refusal.specs.declared.Refusal.{Refusal}
+use Rattle.std.specs.declared.result.Result.TheVariants.{Ok, Err}
+use Rattle.std.specs.declared.result.Result.{Result}
 
 -- the file is accepted, the label and the output are as they may be, and the numbers are those of the lines that fit
 pub record Success (file label : List ℕ) (n room : ℕ) (p : Progress) : Type 0 where
   pub state : State
-  pub passed : surveyed file ≡ Judged.Passed state
+  pub passed : surveyed file ≡ Ok state
   pub brief : length label ≤ 507
   pub roomy : 1024 ≤ room
   pub came : p ≡ progress_in room (drop n (sheet_texts file label))
 
-no_refusal : {p : Progress} {x : Refusal} → Written p ≡ Reply.Refused x → ⊥
+no_refusal : {p : Progress} {x : Refusal} → Ok p ≡ Err x → ⊥
 no_refusal e = let z : ◌≡◌ {A = ℕ} 0 1 = cc in omega arith
 
-pub success : {file label : List ℕ} {n : ℕ} {before after : List ℕ} (p : Progress) → Sheeted file label n before after (Written p) → Success file label n (length before) p
+pub success : {file label : List ℕ} {n : ℕ} {before after : List ℕ} (p : Progress) → Sheeted file label n before after (Ok p) → Success file label n (length before) p
 unfolding sheet_reply replied asked_for
-success {file} {label} {n} {before} p w = go (surveyed file) refl (values_one (Written p) (sheet_reply file label n (length before)) w.answer_is)
+success {file} {label} {n} {before} p w = go (surveyed file) refl (values_one (Ok p) (sheet_reply file label n (length before)) w.answer_is)
   where
-    go : (j : Judged) → surveyed file ≡ j → Written p ≡ replied label (length before) (drop n (sheet_texts file label)) j → Success file label n (length before) p
-    go (Judged.Refused x) e q = absurd (no_refusal q)
-    go (Judged.Passed s) e q = go₂ (ltb 507 (length label)) (ltb (length before) 1024) refl refl q
+    go : (j : Result State Refusal) → surveyed file ≡ j → Ok p ≡ replied label (length before) (drop n (sheet_texts file label)) j → Success file label n (length before) p
+    go (Err x) e q = absurd (no_refusal q)
+    go (Ok s) e q = go₂ (ltb 507 (length label)) (ltb (length before) 1024) refl refl q
       where
         go₂ : (a b : Bool) → ltb 507 (length label) ≡ a → ltb (length before) 1024 ≡ b
-            → Written p ≡ cond a (Reply.Refused (refusal 10 0)) (cond b (Reply.Refused (refusal 11 0)) (Written (progress_in (length before) (drop n (sheet_texts file label))))) → Success file label n (length before) p
+            → Ok p ≡ cond a (Err (refusal 10 0)) (cond b (Err (refusal 11 0)) (Ok (progress_in (length before) (drop n (sheet_texts file label))))) → Success file label n (length before) p
         go₂ true b x y r = absurd (no_refusal r)
         go₂ false true x y r = absurd (no_refusal r)
         go₂ false false x y r = record { state = s; passed = e; brief = ltb-false 507 (length label) x; roomy = ltb-false (length before) 1024 y; came = cc }

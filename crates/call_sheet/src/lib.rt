@@ -7,20 +7,13 @@ ghost use Rattle.sheet_page.specs.Sheet.{sheet_texts};
 ghost use Rattle.call_sheet.specs.Reply.{Sheeted};
 ghost use Rattle.sheet_sections.specs.Given.{IsAcceptedWith};
 
-use call_check::judge::{Judged, State, survey};
+use call_check::judge::{State, survey};
 use file_refusal::Refusal;
 use paging::fit::Progress;
 use paging::run::Run;
 use sheet_sections::{
     buffer_section, head_section, result_section, spectrum_section, statistics_section,
 };
-
-// The answer of Sheet: how many lines and bytes were written and whether they are the last, or a refusal.
-#[derive(Clone, Copy)]
-pub enum Reply {
-    Written(Progress),
-    Refused(Refusal),
-}
 
 // Section after section, from line n on.
 fn fill_sheet<'a>(out: &mut [u8], file: &'a [u8], label: &'a [u8], state: State, n: u32) -> Progress
@@ -41,25 +34,34 @@ fn fill_sheet<'a>(out: &mut [u8], file: &'a [u8], label: &'a [u8], state: State,
 }
 
 // The answer for an accepted file.
-fn answer<'a>(file: &'a [u8], label: &'a [u8], state: State, n: u32, out: &mut [u8]) -> Reply
+fn answer<'a>(
+    file: &'a [u8],
+    label: &'a [u8],
+    state: State,
+    n: u32,
+    out: &mut [u8],
+) -> Result<Progress, Refusal>
     requires { IsAcceptedWith file.now state }
     ensures { Sheeted file.now label.now n out.old out.new result }
 {
     if 507 < label.len() {
-        return Reply::Refused(Refusal { num: 10, at: 0 });
+        return Err(Refusal { num: 10, at: 0 });
     }
     if out.len() < 1024 {
-        return Reply::Refused(Refusal { num: 11, at: 0 });
+        return Err(Refusal { num: 11, at: 0 });
     }
-    Reply::Written(fill_sheet(out, file, label, state, n))
+    Ok(fill_sheet(out, file, label, state, n))
 }
 
 // Writes the lines of the file's sheet from line n on, as many whole ones as fit.
-pub fn sheet<'a>(file: &'a [u8], label: &'a [u8], n: u32, out: &mut [u8]) -> Reply
+pub fn sheet<'a>(
+    file: &'a [u8],
+    label: &'a [u8],
+    n: u32,
+    out: &mut [u8],
+) -> Result<Progress, Refusal>
     ensures { Sheeted file.now label.now n out.old out.new result }
 {
-    match survey(file) {
-        Judged::Passed(state) => answer(file, label, state, n, out),
-        Judged::Refused(refusal) => Reply::Refused(refusal),
-    }
+    let state = survey(file)?;
+    answer(file, label, state, n, out)
 }

@@ -11,8 +11,8 @@ use Rattle.words.proofs.WordLaws.{Below, words_below}
 use Rattle.text.proofs.Pieces.{flat_append}
 use Rattle.file_walk.specs.declared.Cursor.{Cursor}
 use Rattle.file_walk.specs.declared.Stop.TheVariants.{End, Refused}
-use Rattle.file_walk.specs.declared.Step.{Step}
-use Rattle.file_walk.specs.declared.Step.TheVariants.{Block, Over}
+use Rattle.file_walk.specs.declared.Block.{Block}
+use Rattle.file_walk.specs.declared.Stop.{Stop}
 use Rattle.file_walk.specs.Walk.{step_at, parts_of, Part, raw_of, end_marker}
 use Rattle.file_walk.proofs.Steps.{walk_from, walk_over, step_block, end_bounds}
 use Rattle.file_rules.specs.declared.Row.{Row}
@@ -26,13 +26,14 @@ use Rattle.file_slim.proofs.CutLaws.{slim_raw, slim_short}
 use Rattle.call_check.specs.Slims.{slim_part, known_from, slims, slims_in}
 use Rattle.file_read.specs.Read.{part_at}
 use Rattle.call_check.specs.Judge.{judge, surveyed}
-use Rattle.call_check.specs.declared.judge.Judged.TheVariants.{Passed}
 use Rattle.call_check.proofs.FoundWords.{accepted_few}
 use Rattle.call_check.specs.declared.judge.State.{State}
 use Rattle.call_check.proofs.Onward.{refused, no_fuel, Passes, passes, known_through, slims_over, slims_block, onward}
 use Rattle.call_slim.proofs.Cuttable.{inside}
 use Rattle.call_slim.specs.Copy.{slim_words}
 use Rattle.call_slim.specs.Parts.{part_words, IsAccepted, Within}
+use Rattle.std.specs.declared.result.Result.TheVariants.{Ok, Err}
+use Rattle.std.specs.declared.result.Result.{Result}
 
 -- ---- what is known after a block
 
@@ -53,11 +54,10 @@ known_by s p = go (kind_of (low (get_or p.words 0 0))).listed refl
     go false l = unlisted_says s p.words [] l
 
 -- of the block that was read
-pub known_at : (ws : List ℕ) (known : Setup) (start len : ℕ) {from part : List ℕ} {k : Setup} → Holds (drop start ws) from → Holds (take len (words_of from)) part
+pub known_at : (ws : List ℕ) (known : Setup) (start len : ℕ) {part : List ℕ} {k : Setup} → Holds (take len (drop start ws)) part
     → k ≡ learnt known (slim_of known (words_of part) []) → k ≡ known_from known (part_at ws start len)
 unfolding part_at
-known_at ws known start len f p e =
-    e ∙ ap (λ (b : List ℕ). learnt known (slim_of known b [])) (p.words ∙ ap (take len) f.words) ∙ known_by known (part_at ws start len)
+known_at ws known start len p e = e ∙ ap (λ (b : List ℕ). learnt known (slim_of known b [])) p.words ∙ known_by known (part_at ws start len)
 
 -- ---- its words in the slim copy
 
@@ -88,9 +88,9 @@ pub record Read (ws : List ℕ) (known : Setup) (start len : ℕ) (b : List ℕ)
   pub words : b ≡ take len (drop start ws)
   pub row_is : row ≡ row_for known (get_or b 0 0)
 
-pub read_at : (ws : List ℕ) (known : Setup) (start len : ℕ) {from part : List ℕ} {row : Row} → Holds (drop start ws) from → Holds (take len (words_of from)) part
+pub read_at : (ws : List ℕ) (known : Setup) (start len : ℕ) {part : List ℕ} {row : Row} → Holds (take len (drop start ws)) part
     → row ≡ row_for known (get_or (words_of part) 0 0) → Read ws known start len (words_of part) row
-read_at ws known start len f p r = record { words = p.words ∙ ap (take len) f.words; row_is = r }
+read_at ws known start len p r = record { words = p.words; row_is = r }
 
 module _ {ws : List ℕ} {known : Setup} {start len : ℕ} {b : List ℕ} {row : Row} (t : Read ws known start len b row) where
   own_row : row ≡ row_for known (get_or (take len (drop start ws)) 0 0)
@@ -134,36 +134,36 @@ through_known : {ws : List ℕ} {m : ℕ} {s s' : State} {start len : ℕ} {next
 unfolding part_at
 through_known {ws} {s = s} {start = start} {len} x = known_through s x.state start (part_at ws start len) x.through
 
-walk_short : (ws : List ℕ) → Below 65536 ws → length ws ≤ 32768 → (m : ℕ) (c : Cursor) (s s' : State) → judge s (walk_from m ws c) ≡ Passed s'
+walk_short : (ws : List ℕ) → Below 65536 ws → length ws ≤ 32768 → (m : ℕ) (c : Cursor) (s s' : State) → judge s (walk_from m ws c) ≡ Ok s'
     → length (slim_words (slims s.setup (parts_of (walk_from m ws c)))) + c.at ≤ length ws
 walk_short ws below few zero c s s' e = absurd (no_fuel ws s s' c e)
 walk_short ws below few (suc m) c s s' e = go (step_at ws c) refl (walk_short ws below few m)
   where
-    go : (x : Step) → step_at ws c ≡ x → ((c : Cursor) (s s' : State) → judge s (walk_from m ws c) ≡ Passed s' → length (slim_words (slims s.setup (parts_of (walk_from m ws c)))) + c.at ≤ length ws)
+    go : (x : Result Block Stop) → step_at ws c ≡ x → ((c : Cursor) (s s' : State) → judge s (walk_from m ws c) ≡ Ok s' → length (slim_words (slims s.setup (parts_of (walk_from m ws c)))) + c.at ≤ length ws)
         → length (slim_words (slims s.setup (parts_of (walk_from (suc m) ws c)))) + c.at ≤ length ws
-    go (Over (Refused x)) q ih = absurd (refused s s' x (sym (ap (judge s) (walk_over m ws c (Refused x) q)) ∙ e))
-    go (Over (End p left)) q ih =
+    go (Err (Refused x)) q ih = absurd (refused s s' x (sym (ap (judge s) (walk_over m ws c (Refused x) q)) ∙ e))
+    go (Err (End p left)) q ih =
         let b = end_bounds ws c p left q in
         omega (arith, b.0, b.1, ap length (ap slim_words (slims_over m ws c s.setup (End p left) q) ∙ words_end))
-    go (Block id nn start len next) q ih =
-        let x = passes ws m c s s' id nn start len next q e in
-        let b = step_block ws c id nn start len next q in
-        let part = part_at ws start len in
-        let later = slims x.state.setup (parts_of (walk_from m ws next)) in
+    go (Ok b) q ih =
+        let x = passes ws m c s s' b q e in
+        let p = step_block ws c b q in
+        let part = part_at ws b.start b.length in
+        let later = slims x.state.setup (parts_of (walk_from m ws b.next)) in
         let known : x.state.setup ≡ known_from s.setup part = through_known x in
         let words : slim_words (slims s.setup (parts_of (walk_from (suc m) ws c))) ≡ part_words s.setup part ++ slim_words later =
-        rw known (ap slim_words (slims_block m ws c s.setup id nn start len next q) ∙ words_split s.setup part (slims (known_from s.setup part) (parts_of (walk_from m ws next)))) in
+        rw known (ap slim_words (slims_block m ws c s.setup b q) ∙ words_split s.setup part (slims (known_from s.setup part) (parts_of (walk_from m ws b.next)))) in
         omega (
           arith,
           ap length words,
           length-append (part_words s.setup part) (slim_words later),
           read_short (record { words = refl; row_is = refl }) (inside below few x),
-          b.here,
-          b.on,
-          ih next x.state s' x.goes,
+          p.here,
+          p.on,
+          ih b.next x.state s' x.goes,
         )
 
-pub no_longer : (file : List ℕ) (s : State) → surveyed file ≡ Passed s → Below 256 file → length (slim_words (slims_in file)) ≤ length (words_of file)
+pub no_longer : (file : List ℕ) (s : State) → surveyed file ≡ Ok s → Below 256 file → length (slim_words (slims_in file)) ≤ length (words_of file)
 no_longer file s e below =
     let o = onward file s e in
     omega (arith, walk_short (words_of file) (words_below file below) (accepted_few file s e) o.fuel (record { at = 0; last = 0 }) o.state o.last o.goes, ap (λ (xs : List Slim). length (slim_words xs)) (ap (λ (k : Setup). slims k (parts_of (walk_from o.fuel (words_of file) (record { at = 0; last = 0 })))) o.known_is ∙ o.left))

@@ -10,20 +10,13 @@ ghost use Rattle.file_read.specs.Read.{part_at};
 ghost use Rattle.call_slim.specs.Copy.{slim_words, slim_copy, room_for, output_by, Slimmed};
 ghost use Rattle.call_slim.specs.Parts.{IsAccepted, part_words, Within};
 
-use call_check::judge::{Judged, survey};
+use call_check::judge::survey;
 use file_order::setup::Setup;
 use file_refusal::Refusal;
 use file_rules::Row;
 use file_slim::{put_slim, put_word, put_words, slim_words};
-use file_walk::{Cursor, Step, raw_words};
+use file_walk::{Block, Cursor, raw_words};
 use words::{front, rest, word};
-
-// The answer of Slim: how many bytes were written, or a refusal.
-#[derive(Clone, Copy)]
-pub enum Reply {
-    Written(usize),
-    Refused(Refusal),
-}
 
 // The row of a block, by what is known before it.
 fn row_by(known: Setup, b: &[u8]) -> Row
@@ -32,19 +25,19 @@ fn row_by(known: Setup, b: &[u8]) -> Row
     known.row_for(word(b, 0))
 }
 
-// What is known after the block of `len` words at word `start`. A block that is not listed says nothing, so no row is asked for.
-fn known_from(known: Setup, file: &[u8], start: usize, len: usize) -> Setup
-    ensures { result ≡ known_from known (part_at (words_of file.now) start len) }
+// What is known after a block. One that is not listed says nothing, so no row is asked for.
+fn known_from(known: Setup, file: &[u8], block: Block) -> Setup
+    ensures { result ≡ known_from known (part_at (words_of file.now) block.start block.length) }
 {
-    known.learnt(front(rest(file, start), len))
+    known.learnt(block.words(file))
 }
 
-// How many words of the slim copy are the block of `len` words at word `start` and its raw contents.
-fn part_words(known: Setup, file: &[u8], start: usize, len: usize) -> usize
-    requires { Within (words_of file.now) known start len }
-    ensures { result ≡ length (part_words known (part_at (words_of file.now) start len)) }
+// How many words of the slim copy are a block and its raw contents.
+fn part_words(known: Setup, file: &[u8], block: Block) -> usize
+    requires { Within (words_of file.now) known block.start block.length }
+    ensures { result ≡ length (part_words known (part_at (words_of file.now) block.start block.length)) }
 {
-    let b = front(rest(file, start), len);
+    let b = block.words(file);
     let row = row_by(known, b);
     if !row.listed {
         return 0;
@@ -53,20 +46,21 @@ fn part_words(known: Setup, file: &[u8], start: usize, len: usize) -> usize
 }
 
 // Writes these words.
-fn put_part(out: &mut [u8], known: Setup, file: &[u8], start: usize, len: usize) -> usize
-    requires { Within (words_of file.now) known start len × HasRoom (part_words known (part_at (words_of file.now) start len)) out.old }
-    ensures { WroteWords (part_words known (part_at (words_of file.now) start len)) out.old out.new result }
+fn put_part(out: &mut [u8], known: Setup, file: &[u8], block: Block) -> usize
+    requires { Within (words_of file.now) known block.start block.length × HasRoom (part_words known (part_at (words_of file.now) block.start block.length)) out.old }
+    ensures { WroteWords (part_words known (part_at (words_of file.now) block.start block.length)) out.old out.new result }
 {
-    let b = front(rest(file, start), len);
+    let b = block.words(file);
     let row = row_by(known, b);
     if !row.listed {
         return 0;
     }
     let a = put_slim(out, b, row);
-    a + put_words(&mut out[a..], front(rest(file, start + len), raw_words(b)))
+    let raw = front(rest(file, block.start + block.length), raw_words(b));
+    a + put_words(&mut out[a..], raw)
 }
 
-// How many words the slim copy has.
+// How many words the slim copy has. A loop beside that of `put_copy`: a refusal writes no byte (`Slimmed`), so they are counted first.
 fn copy_words(file: &[u8]) -> usize
     requires { IsAccepted file.now }
     ensures { result ≡ length (slim_words (slims_in file.now)) }
@@ -74,21 +68,12 @@ fn copy_words(file: &[u8]) -> usize
     let mut cursor = Cursor::start();
     let mut known = Setup::none();
     let mut n = 0;
-    loop {
-        let step = cursor.step(file);
-        let Step::Block {
-            start,
-            length,
-            next,
-            ..
-        } = step
-        else {
-            return n + 1;
-        };
-        n += part_words(known, file, start, length);
-        known = known_from(known, file, start, length);
-        cursor = next;
+    while let Ok(block) = cursor.step(file) {
+        n += part_words(known, file, block);
+        known = known_from(known, file, block);
+        cursor = block.next;
     }
+    n + 1
 }
 
 // Writes the slim copy.
@@ -99,41 +84,30 @@ fn put_copy(out: &mut [u8], file: &[u8]) -> usize
     let mut cursor = Cursor::start();
     let mut known = Setup::none();
     let mut n = 0;
-    loop {
-        let step = cursor.step(file);
-        let Step::Block {
-            start,
-            length,
-            next,
-            ..
-        } = step
-        else {
-            return n + put_word(&mut out[n..], 0xFFFF);
-        };
-        n += put_part(&mut out[n..], known, file, start, length);
-        known = known_from(known, file, start, length);
-        cursor = next;
+    while let Ok(block) = cursor.step(file) {
+        n += put_part(&mut out[n..], known, file, block);
+        known = known_from(known, file, block);
+        cursor = block.next;
     }
+    n + put_word(&mut out[n..], 0xFFFF)
 }
 
 // An accepted file's slim copy, where it fits.
-fn put_whole(file: &[u8], out: &mut [u8]) -> Reply
+fn put_whole(file: &[u8], out: &mut [u8]) -> Result<usize, Refusal>
     requires { IsAccepted file.now }
     ensures { (result ≡ room_for (slim_copy file.now) (length out.old)) × (out.new ≡ output_by (slim_copy file.now) out.old result) }
 {
     let bytes = 2 * copy_words(file);
     if out.len() < bytes {
-        return Reply::Refused(Refusal { num: 11, at: 0 });
+        return Err(Refusal { num: 11, at: 0 });
     }
-    Reply::Written(put_copy(out, file))
+    Ok(put_copy(out, file))
 }
 
 // Writes the slim copy of a file and answers its length, or refuses and writes nothing.
-pub fn slim(file: &[u8], out: &mut [u8]) -> Reply
+pub fn slim(file: &[u8], out: &mut [u8]) -> Result<usize, Refusal>
     ensures { Slimmed file.now out.old out.new result }
 {
-    match survey(file) {
-        Judged::Passed(_) => put_whole(file, out),
-        Judged::Refused(refusal) => Reply::Refused(refusal),
-    }
+    survey(file)?;
+    put_whole(file, out)
 }

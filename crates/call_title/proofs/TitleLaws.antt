@@ -15,8 +15,6 @@ use Rattle.text.specs.Text.{before_null}
 use Rattle.file_refusal.specs.declared.Refusal.{Refusal}
 use Rattle.file_tables.specs.Table.{row_of}
 use Rattle.call_check.specs.declared.judge.State.{State}
-use Rattle.call_check.specs.declared.judge.Judged.{Judged}
-use Rattle.call_check.specs.declared.judge.Judged.TheVariants.{Passed, Refused}
 use Rattle.call_check.specs.Judge.{surveyed}
 use Rattle.call_check.specs.Starts.{place_of}
 use Rattle.call_check.specs.Slims.{slims_in, slim_after, slim_at}
@@ -25,25 +23,29 @@ use Rattle.call_check.proofs.Found.{found}
 use Rattle.call_check.proofs.FoundWords.{accepted_fits, accepted_few}
 use Rattle.text.proofs.Nulls.{text_front}
 use Rattle.call_title.proofs.Texts.{found_text}
-use Rattle.call_title.specs.declared.TitleAt.TheVariants.{Text, Label}
-use Rattle.call_title.specs.Title.{title_text, text_at, title_in, title_at, seen, part_of, handed, title_of, Titled}
+use Rattle.call_title.specs.declared.Span.{Span}
+use Rattle.std.specs.declared.option.Option.TheVariants.{None}
+use Rattle.std.specs.declared.option.Option.{Option}
+use Rattle.call_title.specs.Title.{title_text, span, text_at, title_in, title_at, seen, part_of, handed, title_of, Titled}
+use Rattle.std.specs.declared.result.Result.TheVariants.{Ok, Err}
+use Rattle.std.specs.declared.result.Result.{Result}
 
 -- ---- the title of a file
 
 -- the two cases of a text: none, or n bytes from byte `at` on
-pub text_none : (start : ℕ) (text : List ℕ) → length text ≡ 0 → text_at start text ≡ Label
+pub text_none : (start : ℕ) (text : List ℕ) → length text ≡ 0 → text_at start text ≡ None
 unfolding text_at
 text_none start text e = rw (eq-eqb (length text) 0 e)
 
-pub text_some : (start : ℕ) (text : List ℕ) (at : ℕ) → (length text ≡ 0 → ⊥) → at ≡ 2 * (start + 1) → text_at start text ≡ Text at (length text)
+pub text_some : (start : ℕ) (text : List ℕ) (at : ℕ) → (length text ≡ 0 → ⊥) → at ≡ 2 * (start + 1) → text_at start text ≡ span at (length text)
 unfolding text_at
 text_some start text at e q = rw (ne_eqb (length text) 0 e, q)
 
-pub title_denied : {x : Refusal} (file : List ℕ) → surveyed file ≡ Refused x → title_at file ≡ Label
+pub title_denied : {x : Refusal} (file : List ℕ) → surveyed file ≡ Err x → title_at file ≡ None
 unfolding title_at title_in
 title_denied file e = rw e
 
-module _ (file : List ℕ) (s : State) (e : surveyed file ≡ Passed s) where
+module _ (file : List ℕ) (s : State) (e : surveyed file ≡ Ok s) where
   title_passed : title_at file ≡ text_at s.starts.title (title_text (slims_in file))
   unfolding title_at title_in
   title_passed = rw e
@@ -64,24 +66,26 @@ module _ (file : List ℕ) (s : State) (e : surveyed file ≡ Passed s) where
       let bytes : bytes_of (drop first (words_of file)) ≡ drop (2 * first) file = bytes_drop first (words_of file) ∙ ap (drop (2 * first)) whole in
       rw (← title_found, ← bytes) (text_front _)
 
-no_label : {at n : ℕ} → Label ≡ Text at n → ⊥
+no_label : {at n : ℕ} → ◌≡◌ {A = Option Span} None (span at n) → ⊥
 no_label e = let z : ◌≡◌ {A = ℕ} 0 1 = cc in omega arith
 
-there_said : {a k at n : ℕ} → Text a k ≡ Text at n → (a ≡ at) × (k ≡ n)
-there_said e = (cc, cc)
+there_said : {a k at n : ℕ} → span a k ≡ span at n → (a ≡ at) × (k ≡ n)
+there_said {a} {k} {at} {n} e =
+    let s : ◌≡◌ {A = Span} (record { at = a; len = k }) (record { at = at; len = n }) = cc in
+    (ap (λ (x : Span). x.at) s, ap (λ (x : Span). x.len) s)
 
 -- a title that stands in the file
 pub record Stands (file : List ℕ) (at n : ℕ) : Type 0 where
   pub fits : at + n ≤ length file
   pub bytes : take n (drop at file) ≡ title_text (slims_in file)
 
-pub title_part : (file : List ℕ) → Below 256 file → (at n : ℕ) → title_at file ≡ Text at n → Stands file at n
+pub title_part : (file : List ℕ) → Below 256 file → (at n : ℕ) → title_at file ≡ span at n → Stands file at n
 unfolding title_at title_in text_at
 title_part file small at n h = go (surveyed file) refl h
   where
-    go : (j : Judged) → surveyed file ≡ j → title_in file j ≡ Text at n → Stands file at n
-    go (Refused x) e f = absurd (no_label f)
-    go (Passed s) e f =
+    go : (j : Result State Refusal) → surveyed file ≡ j → title_in file j ≡ span at n → Stands file at n
+    go (Err x) e f = absurd (no_label f)
+    go (Ok s) e f =
         let text = title_text (slims_in file) in
         let some = cond_second (eqb (length text) 0) f no_label in
         let same = there_said some.1 in
@@ -91,17 +95,17 @@ title_part file small at n h = go (surveyed file) refl h
 -- ---- what Title hands back
 
 module _ (file label : Bor (List ℕ)) where
-  pub title_refused : {x : Refusal} → surveyed file.now ≡ Refused x → title_of file label ≡ seen label
+  pub title_refused : {x : Refusal} → surveyed file.now ≡ Err x → title_of file label ≡ seen label
   unfolding title_of handed
   title_refused e = rw (title_denied file.now e)
 
   -- its bytes, for an accepted file: the text of the file's slim block 03, or the label where that is empty
-  pub title_bytes : (s : State) → surveyed file.now ≡ Passed s → Below 256 file.now
+  pub title_bytes : (s : State) → surveyed file.now ≡ Ok s → Below 256 file.now
       → (title_of file label).1 ≡ cond (eqb (length (title_text (slims_in file.now))) 0) label.now (title_text (slims_in file.now))
   unfolding title_of handed part_of text_at
   title_bytes s e small = rw (title_passed file.now s e) (go (eqb (length (title_text (slims_in file.now))) 0))
     where
-      go : (t : Bool) → (handed file label (cond t Label (Text (2 * (s.starts.title + 1)) (length (title_text (slims_in file.now)))))).1
+      go : (t : Bool) → (handed file label (cond t None (span (2 * (s.starts.title + 1)) (length (title_text (slims_in file.now)))))).1
           ≡ cond t label.now (title_text (slims_in file.now))
       go true = refl
       go false = title_there file.now s e small

@@ -10,63 +10,75 @@ ghost use Rattle.desk_lines.specs.Notices.{printed, printed_name, taken, outcome
 
 use desk_words::{Front, put_cause, put_refusal};
 use file_refusal::Refusal;
+use std::io::Error;
 use text::decimal::put_decimal;
-use text::put::{put_byte, put_bytes};
+use text::put::{put_byte, put_bytes, put_mapped};
+
+// An error by the system's own number of it, which is told where it has no words.
+#[derive(Clone, Copy, PartialEq, Eq, Debug)]
+pub struct Errno {
+    pub number: u16,
+}
+
+impl From<Error> for Errno {
+    // 5, a fault of the disk, where the system names none.
+    fn from(e: Error) -> Errno {
+        let number = match e.raw_os_error().map(u16::try_from) {
+            Some(Ok(number)) if number != 0 => number,
+            _ => 5,
+        };
+        Errno { number }
+    }
+}
 
 // By what a target is taken, so that nothing is written there.
-#[derive(Clone, Copy)]
+#[derive(Clone, Copy, PartialEq, Eq, Debug)]
 pub enum Taken {
     Input,
     NoSheet,
     NoSlim,
     Folder,
-    Shut { error: u16 },
+    Shut { error: Errno },
     Claimed,
 }
 
-// What came of a file. An error is the system's number of it.
-#[derive(Clone, Copy)]
+// What came of a file.
+#[derive(Clone, Copy, PartialEq, Eq, Debug)]
 pub enum Outcome {
     Converted { lines: u32 },
     Copied { bytes: usize },
     Accepted,
     Refused { refusal: Refusal, front: Front },
-    Unread { error: u16 },
-    Unwritten { error: u16 },
+    Unread { error: Errno },
+    Unwritten { error: Errno },
     Kept { by: Taken },
 }
 
 // How it is counted: converted, copied or accepted; refused; not read or written.
-#[derive(Clone, Copy)]
+#[derive(Clone, Copy, PartialEq, Eq, Debug)]
 pub enum Fate {
     Done,
     Refused,
     Failed,
 }
 
+#[tactic(auto, unfolding(crate::specs::Notices::fate_of))]
 pub fn fate_of(o: Outcome) -> Fate
     ensures { result ≡ fate_of o }
 {
     match o {
-        Outcome::Converted { lines } => Fate::Done,
-        Outcome::Copied { bytes } => Fate::Done,
-        Outcome::Accepted => Fate::Done,
-        Outcome::Refused { refusal, front } => Fate::Refused,
-        Outcome::Unread { error } => Fate::Failed,
-        Outcome::Unwritten { error } => Fate::Failed,
-        Outcome::Kept { by } => Fate::Failed,
+        Outcome::Converted { .. } | Outcome::Copied { .. } | Outcome::Accepted => Fate::Done,
+        Outcome::Refused { .. } => Fate::Refused,
+        Outcome::Unread { .. } | Outcome::Unwritten { .. } | Outcome::Kept { .. } => Fate::Failed,
     }
 }
 
 pub fn is_done(o: Outcome) -> bool {
-    match fate_of(o) {
-        Fate::Done => true,
-        Fate::Refused => false,
-        Fate::Failed => false,
-    }
+    matches!(fate_of(o), Fate::Done)
 }
 
-// A file in the list of fates.
+// The number by which a name is told once more.
+#[tactic(auto, unfolding(crate::specs::Notices::fate_byte))]
 pub fn fate_byte(fate: Fate) -> u8
     ensures { result ≡ fate_byte fate }
 {
@@ -78,7 +90,7 @@ pub fn fate_byte(fate: Fate) -> u8
 }
 
 // How many files of each fate.
-#[derive(Clone, Copy)]
+#[derive(Clone, Copy, PartialEq, Eq, Debug)]
 pub struct Tally {
     pub done: usize,
     pub refused: usize,
@@ -86,6 +98,7 @@ pub struct Tally {
 }
 
 impl Tally {
+    #[tactic(auto, unfolding(crate::specs::Notices::no_tally))]
     pub fn none() -> Tally
         ensures { result ≡ no_tally }
     {
@@ -97,17 +110,25 @@ impl Tally {
     }
 
     // One file more.
+    #[tactic(auto, unfolding(crate::specs::Notices::one_more, crate::specs::Notices::total))]
     pub fn with(self, fate: Fate) -> Tally
         requires { total self < 18446744073709551615 }
         ensures { (result ≡ one_more self fate) × (total result ≡ total self + 1) }
     {
-        let mut t = self;
         match fate {
-            Fate::Done => t.done += 1,
-            Fate::Refused => t.refused += 1,
-            Fate::Failed => t.failed += 1,
+            Fate::Done => Tally {
+                done: self.done + 1,
+                ..self
+            },
+            Fate::Refused => Tally {
+                refused: self.refused + 1,
+                ..self
+            },
+            Fate::Failed => Tally {
+                failed: self.failed + 1,
+                ..self
+            },
         }
-        t
     }
 }
 
@@ -115,34 +136,26 @@ impl Tally {
 fn print_byte(b: u8) -> u8
     ensures { result ≡ printed b }
 {
-    if b < 0x20 {
-        return b'?';
+    match b {
+        0..0x20 | 0x7F => b'?',
+        _ => b,
     }
-    if b == 0x7F {
-        return b'?';
-    }
-    b
 }
 
 fn put_name(out: &mut [u8], name: &[u8]) -> usize
     requires { length name.now ≤ length out.old }
     ensures { Wrote (printed_name name.now) (length name.now) out.old out.new result }
 {
-    let mut i = 0;
-    while i < name.len() {
-        out[i] = print_byte(name[i]);
-        i += 1;
-    }
-    i
+    put_mapped(out, name, print_byte)
 }
 
 // A text, and a cause after it.
-fn put_failure(out: &mut [u8], what: &[u8], error: u16) -> usize
+fn put_failure(out: &mut [u8], what: &[u8], error: Errno) -> usize
     requires { length what.now + 30 ≤ length out.old }
-    ensures { Wrote (what.now ++ cause error) (length what.now + 30) out.old out.new result }
+    ensures { Wrote (what.now ++ cause error.number) (length what.now + 30) out.old out.new result }
 {
     let a = put_bytes(out, what);
-    a + put_cause(&mut out[a..], error)
+    a + put_cause(&mut out[a..], error.number)
 }
 
 // A number, and what it counts.
@@ -154,6 +167,7 @@ fn put_count(out: &mut [u8], n: u64, what: &[u8]) -> usize
     a + put_bytes(&mut out[a..], what)
 }
 
+#[tactic(auto, using(text::proofs::Writing::at_most), unfolding(crate::specs::Notices::taken))]
 fn put_taken(out: &mut [u8], by: Taken) -> usize
     requires { 57 ≤ length out.old }
     ensures { Wrote (taken by) 57 out.old out.new result }
@@ -178,6 +192,7 @@ fn put_kept(out: &mut [u8], path: &[u8], by: Taken) -> usize
     b + put_taken(&mut out[b..], by)
 }
 
+#[tactic(auto, using(text::proofs::Writing::at_most), unfolding(crate::specs::Notices::outcome))]
 fn put_outcome(out: &mut [u8], path: &[u8], o: Outcome) -> usize
     requires { 145 + length path.now ≤ length out.old }
     ensures { Wrote (outcome path.now o) (145 + length path.now) out.old out.new result }
@@ -295,23 +310,24 @@ pub fn put_summary(out: &mut [u8], files: usize, word: &[u8], t: Tally) -> usize
     d + put_byte(&mut out[d..], b'\n')
 }
 
-fn put_again_word(out: &mut [u8], fate: u8) -> usize
-    requires { 21 ≤ length out.old }
-    ensures { Wrote (named again_words fate) 21 out.old out.new result }
+#[tactic(auto, unfolding(crate::specs::Notices::again_words, text::specs::Text::named))]
+fn again_word(fate: u8) -> &'static [u8]
+    ensures words { result.now ≡ named again_words fate }
+    ensures short { length result.now ≤ 21 }
 {
     match fate {
-        1 => put_bytes(out, b"refused: "),
-        2 => put_bytes(out, b"not read or written: "),
-        _ => 0,
+        1 => b"refused: ",
+        2 => b"not read or written: ",
+        _ => b"",
     }
 }
 
-// A name that did not get through once more.
+// A name that did not get through once more. Its fate stays a number here, since the clause speaks of any number.
 pub fn put_again(out: &mut [u8], fate: u8, name: &[u8]) -> usize
     requires { 22 + length name.now ≤ length out.old }
     ensures { Wrote (again fate name.now) (22 + length name.now) out.old out.new result }
 {
-    let a = put_again_word(out, fate);
+    let a = put_bytes(out, again_word(fate));
     let b = a + put_name(&mut out[a..], name);
     b + put_byte(&mut out[b..], b'\n')
 }

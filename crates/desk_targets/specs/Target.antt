@@ -1,23 +1,20 @@
 -- What may stand where a sheet or a slim copy is written: nothing, or what we write there. Anything else stays.
-use Rattle.std.specs.Prelude.{Bool, true, false, cond, not, ◌&&◌, ◌||◌, List, [], ◌∷◌, ◌≡◌, ℕ, ◌+◌, ◌*◌, ◌≤◌, eqb, length, take, drop}
+use Rattle.std.specs.Prelude.{Bool, true, false, cond, not, ◌&&◌, ◌||◌, List, [], ◌∷◌, ◌≡◌, ℕ, ◌+◌, ◌*◌, ◌≤◌, eqb, length, take, drop, Result, Ok, Err}
 use Rattle.text.specs.Ascii.{ascii}
-use Rattle.call_check.specs.declared.judge.Judged.{Judged}
-use Rattle.call_check.specs.declared.judge.Judged.TheVariants.{Passed, Refused}
+use Rattle.file_refusal.specs.declared.Refusal.{Refusal}
+use Rattle.call_check.specs.declared.judge.State.{State}
 use Rattle.call_check.specs.Judge.{surveyed}
 use Rattle.call_slim.specs.Copy.{slim_copy}
+use Rattle.desk_lines.specs.declared.Errno.{Errno}
 use Rattle.desk_lines.specs.declared.Taken.{Taken}
 use Rattle.desk_lines.specs.declared.Taken.TheVariants.{Input, NoSheet, NoSlim, Folder, Shut, Claimed}
 use Rattle.desk_targets.specs.declared.Form.{Form}
 use Rattle.desk_targets.specs.declared.Form.TheVariants.{Sheet, Slim}
-use Rattle.desk_targets.specs.declared.Target.{Target}
-use Rattle.desk_targets.specs.declared.Target.TheVariants.{Free, Held}
-use Rattle.desk_targets.specs.declared.load.Got.{Got}
-use Rattle.desk_targets.specs.declared.load.Got.TheVariants.{Bytes, Failed}
 
 -- n bytes were read, as many as there is room for at most, or none
-abbrev pub Fits : ℕ → Got → Type 0
-Fits room (Bytes n) = n ≤ room
-Fits room (Failed error) = Unit {0}
+abbrev pub Fits : ℕ → Result ℕ Errno → Type 0
+Fits room (Ok n) = n ≤ room
+Fits room (Err error) = Unit {0}
 
 -- whether two texts are the same
 unfoldable pub same : List ℕ → List ℕ → Bool
@@ -31,9 +28,9 @@ unfoldable pub is_sheet : List ℕ → Bool
 is_sheet bytes = same (take 5 bytes) (ascii "unit=")
 
 -- "FILE.slim is its own slim copy"
-unfoldable pub is_itself : List ℕ → Judged → Bool
-is_itself bytes (Passed s) = same (slim_copy bytes) bytes
-is_itself bytes (Refused r) = false
+unfoldable pub is_itself : List ℕ → Result State Refusal → Bool
+is_itself bytes (Ok s) = same (slim_copy bytes) bytes
+is_itself bytes (Err r) = false
 
 unfoldable pub is_slim : List ℕ → Bool
 is_slim bytes = is_itself bytes (surveyed bytes)
@@ -58,33 +55,33 @@ unfoldable pub is_wanted : Bool → List ℕ → Bool
 is_wanted input bytes = input && not (is_sheet bytes)
 
 -- "An older file is replaced only if it is what we write there": a target that was read
-unfoldable pub by_bytes : Form → Bool → List ℕ → Target
-by_bytes form input bytes = cond (is_wanted input bytes) (Held Input) (cond (is_ours form bytes) Free (Held (not_ours form)))
+unfoldable pub by_bytes : Form → Bool → List ℕ → Result (Unit {0}) Taken
+by_bytes form input bytes = cond (is_wanted input bytes) (Err Input) (cond (is_ours form bytes) (Ok tt) (Err (not_ours form)))
 
 -- and one that was not, by the system's number of the error: there is no such file, no such folder, or the name is too long
 unfoldable pub is_absent : ℕ → Bool
 is_absent error = eqb error 2 || eqb error 20 || eqb error 36
 
-unfoldable pub by_error : ℕ → Target
-by_error error = cond (is_absent error) Free (cond (eqb error 21) (Held Folder) (Held (Shut error)))
+unfoldable pub by_error : Errno → Result (Unit {0}) Taken
+by_error error = cond (is_absent error.number) (Ok tt) (cond (eqb error.number 21) (Err Folder) (Err (Shut error)))
 
-unfoldable pub by_reading : Form → Bool → Got → List ℕ → Target
-by_reading form input (Bytes n) held = by_bytes form input (take n held)
-by_reading form input (Failed error) held = by_error error
+unfoldable pub by_reading : Form → Bool → Result ℕ Errno → List ℕ → Result (Unit {0}) Taken
+by_reading form input (Ok n) held = by_bytes form input (take n held)
+by_reading form input (Err error) held = by_error error
 
 -- a target that was read, and what stands there by it
-pub record Read (form : Form) (input : Bool) (held : List ℕ) (t : Target) : Type 0 where
-  pub got : Got
+pub record Read (form : Form) (input : Bool) (held : List ℕ) (t : Result (Unit {0}) Taken) : Type 0 where
+  pub got : Result ℕ Errno
   pub reads : t ≡ by_reading form input got held
 
 -- "Two inputs that would give one target ..: the second is not written"
-unfoldable pub standing : Form → Bool → Bool → Got → List ℕ → Target
-standing form claimed input got held = cond claimed (Held Claimed) (by_reading form input got held)
+unfoldable pub standing : Form → Bool → Bool → Result ℕ Errno → List ℕ → Result (Unit {0}) Taken
+standing form claimed input got held = cond claimed (Err Claimed) (by_reading form input got held)
 
 -- what was found at a target: by whether an earlier file has it, whether it is a file to convert, and what reading it gave
-pub record Stood (form : Form) (claimed : Bool) (ids id : List ℕ) (t : Target) : Type 0 where
+pub record Stood (form : Form) (claimed : Bool) (ids id : List ℕ) (t : Result (Unit {0}) Taken) : Type 0 where
   pub input : Bool
   pub asked : IsInput ids id input
-  pub got : Got
+  pub got : Result ℕ Errno
   pub held : List ℕ
   pub stood : t ≡ standing form claimed input got held

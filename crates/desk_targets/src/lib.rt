@@ -6,15 +6,14 @@ pub mod load;
 ghost use Rattle.std.specs.Prelude.{◌≡◌, ◌≤◌, length};
 ghost use Rattle.desk_targets.specs.Target.{is_sheet, is_slim, is_ours, not_ours, IsInput, is_wanted, by_bytes, is_absent, by_error, Read, Stood};
 
-use call_slim::{Reply, slim};
-use desk_lines::Taken;
-use load::{Got, load};
+use call_slim::slim;
+use desk_lines::{Errno, Taken};
+use load::load;
 use std::fs::Files;
-use text::read::is_same;
 
 // What is known of a file before it is opened: whether it is a pipe or a device, whether an earlier file has its target, and
 // whether a pipe or a device stands there.
-#[derive(Clone, Copy)]
+#[derive(Clone, Copy, PartialEq, Eq, Debug)]
 pub struct Mark {
     pub pipe: bool,
     pub claimed: bool,
@@ -22,43 +21,23 @@ pub struct Mark {
 }
 
 // What is written of a file.
-#[derive(Clone, Copy)]
+#[derive(Clone, Copy, PartialEq, Eq, Debug)]
 pub enum Form {
     Sheet,
     Slim,
-}
-
-// A target that may be written, or by what it is taken.
-#[derive(Clone, Copy)]
-pub enum Target {
-    Free,
-    Held { by: Taken },
 }
 
 // Whether `id`, the device and inode of a target, is among those of the files to convert.
 fn is_input(ids: &[u8], id: &[u8]) -> bool
     ensures { IsInput ids.now id.now result }
 {
-    let files = ids.len() / 40;
-    let mut i = 0;
-    while i < files {
-        let at = 40 * i;
-        let end = at + 40;
-        if is_same(&ids[at..end], id) {
-            return true;
-        }
-        i += 1;
-    }
-    false
+    ids.chunks_exact(40).any(|x| x == id)
 }
 
 fn is_sheet(bytes: &[u8]) -> bool
     ensures { result ≡ is_sheet bytes.now }
 {
-    if bytes.len() < 5 {
-        return false;
-    }
-    is_same(&bytes[0..5], b"unit=")
+    bytes.starts_with(b"unit=")
 }
 
 fn is_slim(bytes: &[u8], out: &mut [u8]) -> bool
@@ -66,11 +45,12 @@ fn is_slim(bytes: &[u8], out: &mut [u8]) -> bool
     ensures { result ≡ is_slim bytes.now }
 {
     match slim(bytes, out) {
-        Reply::Refused(refusal) => false,
-        Reply::Written(n) => is_same(&out[0..n], bytes),
+        Ok(n) => &out[0..n] == bytes,
+        Err(_) => false,
     }
 }
 
+#[tactic(auto, unfolding(crate::specs::Target::is_ours))]
 fn is_ours(form: Form, bytes: &[u8], out: &mut [u8]) -> bool
     requires { length bytes.now ≤ length out.old }
     ensures { result ≡ is_ours form bytes.now }
@@ -81,6 +61,7 @@ fn is_ours(form: Form, bytes: &[u8], out: &mut [u8]) -> bool
     }
 }
 
+#[tactic(auto, unfolding(crate::specs::Target::not_ours))]
 fn not_ours(form: Form) -> Taken
     ensures { result ≡ not_ours form }
 {
@@ -91,53 +72,47 @@ fn not_ours(form: Form) -> Taken
 }
 
 // Whether a target is a file to convert that is no sheet.
+#[tactic(auto, unfolding(crate::specs::Target::is_wanted))]
 fn is_wanted(input: bool, bytes: &[u8]) -> bool
     ensures { result ≡ is_wanted input bytes.now }
 {
-    if input {
-        return !is_sheet(bytes);
-    }
-    false
+    input && !is_sheet(bytes)
 }
 
-// A target that was read.
-fn by_bytes(form: Form, input: bool, bytes: &[u8], out: &mut [u8]) -> Target
+// Whether a target that was read may be written, or by what it is taken.
+#[tactic(auto, unfolding(crate::specs::Target::by_bytes))]
+fn by_bytes(form: Form, input: bool, bytes: &[u8], out: &mut [u8]) -> Result<(), Taken>
     requires { length bytes.now ≤ length out.old }
     ensures { result ≡ by_bytes form input bytes.now }
 {
     if is_wanted(input, bytes) {
-        return Target::Held { by: Taken::Input };
+        return Err(Taken::Input);
     }
     if is_ours(form, bytes, out) {
-        return Target::Free;
+        return Ok(());
     }
-    Target::Held { by: not_ours(form) }
+    Err(not_ours(form))
 }
 
-fn is_absent(error: u16) -> bool
-    ensures { result ≡ is_absent error }
+#[tactic(auto, unfolding(crate::specs::Target::is_absent))]
+fn is_absent(error: Errno) -> bool
+    ensures { result ≡ is_absent error.number }
 {
-    match error {
-        2 => true,
-        20 => true,
-        36 => true,
-        _ => false,
-    }
+    matches!(error.number, 2 | 20 | 36)
 }
 
 // A target that was not.
-fn by_error(error: u16) -> Target
+#[tactic(auto, unfolding(crate::specs::Target::by_error))]
+fn by_error(error: Errno) -> Result<(), Taken>
     ensures { result ≡ by_error error }
 {
     if is_absent(error) {
-        return Target::Free;
+        return Ok(());
     }
-    if error == 21 {
-        return Target::Held { by: Taken::Folder };
+    if error.number == 21 {
+        return Err(Taken::Folder);
     }
-    Target::Held {
-        by: Taken::Shut { error },
-    }
+    Err(Taken::Shut { error })
 }
 
 // How many bytes tell whether it is ours: the front of a sheet, all of a slim copy.
@@ -159,17 +134,17 @@ fn look<R: Files>(
     path: &[u8],
     older: &mut [u8],
     out: &mut [u8],
-) -> Target
+) -> Result<(), Taken>
     requires { length older.old ≤ length out.old }
     ensures { Read form input older.new result }
 {
     match load(rt, path, blocked, older) {
-        Got::Failed(error) => by_error(error),
-        Got::Bytes(n) => by_bytes(form, input, &older[0..n], out),
+        Ok(n) => by_bytes(form, input, &older[0..n], out),
+        Err(error) => by_error(error),
     }
 }
 
-// What stands at `path`, whose device and inode is `id`.
+// Whether `path`, whose device and inode is `id`, may be written, or by what it is taken.
 pub fn target_at<R: Files>(
     rt: &R,
     form: Form,
@@ -178,13 +153,13 @@ pub fn target_at<R: Files>(
     ids: &[u8],
     id: &[u8],
     out: &mut [u8],
-) -> Target
+) -> Result<(), Taken>
     requires { 65537 ≤ length out.old }
     ensures { Stood form mark.claimed ids.now id.now result }
 {
     let input = is_input(ids, id);
     if mark.claimed {
-        return Target::Held { by: Taken::Claimed };
+        return Err(Taken::Claimed);
     }
     let mut older = [0u8; 65537];
     let k = telling(form);

@@ -12,6 +12,7 @@ use words::word;
 // What later blocks depend on: the model, the function, the levels of bands and of profiles in a buffer record, the numbers of classes.
 #[derive(Clone, Copy)]
 pub struct Setup {
+    // Words of the file and no enums: `row_for` answers for any unit type, and `row_of` and `Due::after` for any number.
     pub model: u16,
     pub function: u16,
     pub bands: u16,
@@ -105,28 +106,26 @@ impl Setup {
     pub fn learnt(self, b: &[u8]) -> Setup
         ensures { result ≡ learnt self (slim_of self (words_of b.now) []) }
     {
-        let id = word(b, 0) % 256;
-        let mut known = self;
-        match id {
-            0x02 => {
-                known.model = word(b, 2);
-                known
-            }
-            0x04 => {
-                known.function = word(b, 3);
-                known.bands = bands_in(self.model, b);
-                known
-            }
-            0x05 => {
-                known.profiles = profile_levels(b);
-                known
-            }
-            0x09 => {
-                known.first = record_word(b, 0, 1);
-                known.second = record_word(b, 1, 1);
-                known.third = record_word(b, 2, 1);
-                known
-            }
+        match word(b, 0) % 256 {
+            0x02 => Setup {
+                model: word(b, 2),
+                ..self
+            },
+            0x04 => Setup {
+                function: word(b, 3),
+                bands: bands_in(self.model, b),
+                ..self
+            },
+            0x05 => Setup {
+                profiles: profile_levels(b),
+                ..self
+            },
+            0x09 => Setup {
+                first: record_word(b, 0, 1),
+                second: record_word(b, 1, 1),
+                third: record_word(b, 2, 1),
+                ..self
+            },
             _ => self,
         }
     }

@@ -12,13 +12,13 @@ use borrow.Rule.Slice.PartMut.{mid_of, put_mid}
 use Rattle.words.specs.Words.{high, words_of, Holds}
 use Rattle.file_rules.specs.declared.Row.{Row}
 use Rattle.file_rules.specs.declared.Subs.{Subs}
-use Rattle.file_rules.specs.declared.Tested.TheVariants.{Good}
 use Rattle.file_rules.specs.Block.{least_of, records}
 use Rattle.file_rules.specs.Slim.{counted, cut_to, cut_text, slim_records, head_by, slim_by, words_in}
 use Rattle.file_rules.proofs.BlockLaws.{then_good, offset_good, recorded_says}
 use Rattle.file_slim.specs.Cut.{WroteWords, HasRoom, Cuts}
 use Rattle.file_slim.proofs.TextLaws.{text_short}
 use Rattle.file_slim.proofs.WordWriting.{Begun, room, next}
+use Rattle.std.specs.declared.result.Result.TheVariants.{Ok}
 
 -- the words after the first of n, as `rest(front(b, n), 1)` hands them back
 after_first : (n : ℕ) (ws : List ℕ) → drop 1 (take n ws) ≡ take (n - 1) (drop 1 ws)
@@ -50,22 +50,21 @@ module _ (r : Row) (b : List ℕ) where
 
 -- ---- the sub-blocks as a loop writes them
 
--- the first of those that are left, of k words, and the others
-records_step : (least left o k : ℕ) (ws : List ℕ) → 0 < left → k ≡ high (get_or (drop o ws) 0 0)
-    → flatten (slim_records least left (drop o ws)) ≡ cut_to least (drop o ws) ++ flatten (slim_records least (left - 1) (drop (o + k) ws))
+-- the first of those that are left after i of p, of k words, and the others
+records_step : (least p i o k : ℕ) (ws : List ℕ) → i < p → k ≡ high (get_or (drop o ws) 0 0)
+    → flatten (slim_records least (p - i) (drop o ws)) ≡ cut_to least (drop o ws) ++ flatten (slim_records least (p - (i + 1)) (drop (o + k) ws))
 unfolding slim_records flatten
-records_step least zero o k ws h q = absurd (omega arith)
-records_step least (suc j) o k ws h q =
-    let f : suc j - 1 ≡ j = omega arith in
-    rw (f, q, ← drop-drop (high (get_or (drop o ws) 0 0)) o ws)
+records_step least p i o k ws h q =
+    let f : p - i ≡ suc (p - (i + 1)) = omega arith in
+    rw (f, slim_records, flatten, q, ← drop-drop (high (get_or (drop o ws) 0 0)) o ws)
 
-module _ (least left o : ℕ) (ws : List ℕ) {all d e : List ℕ} {n : ℕ} (s : Begun all (flatten (slim_records least left (drop o ws))) d e n) (g : HasRoom all d) (h : 0 < left) where
+module _ (least p i o : ℕ) (ws : List ℕ) {all d e : List ℕ} {n : ℕ} (s : Begun all (flatten (slim_records least (p - i) (drop o ws))) d e n) (g : HasRoom all d) (h : i < p) where
   pub record_room : HasRoom (cut_to least (drop o ws)) (mid_of n (length e - n) e)
-  record_room = room s g (cut_to least (drop o ws)) (flatten (slim_records least (left - 1) (drop (o + high (get_or (drop o ws) 0 0)) ws))) (records_step least left o _ ws h refl)
+  record_room = room s g (cut_to least (drop o ws)) (flatten (slim_records least (p - (i + 1)) (drop (o + high (get_or (drop o ws) 0 0)) ws))) (records_step least p i o _ ws h refl)
 
   pub record_next : {f : List ℕ} {m : ℕ} (k : ℕ) → k ≡ high (get_or (drop o ws) 0 0) → WroteWords (cut_to least (drop o ws)) (mid_of n (length e - n) e) f m
-      → Begun all (flatten (slim_records least (left - 1) (drop (o + k) ws))) d (put_mid n (length e - n) e f) (n + m)
-  record_next k q = next s g (cut_to least (drop o ws)) (flatten (slim_records least (left - 1) (drop (o + k) ws))) (records_step least left o k ws h q)
+      → Begun all (flatten (slim_records least (p - (i + 1)) (drop (o + k) ws))) d (put_mid n (length e - n) e f) (n + m)
+  record_next k q = next s g (cut_to least (drop o ws)) (flatten (slim_records least (p - (i + 1)) (drop (o + k) ws))) (records_step least p i o k ws h q)
 
 pub records_end : (least left : ℕ) (ws : List ℕ) → left ≡ 0 → flatten (slim_records least left ws) ≡ []
 unfolding slim_records flatten
@@ -77,7 +76,7 @@ pub cut_length : (n : ℕ) (b : List ℕ) → 1 ≤ n → n ≤ length b → len
 unfolding cut_to
 cut_length n b h g = rw (length-take-le (n - 1) (drop 1 b) (rw length-drop (omega arith))) (omega arith)
 
-pub records_length : (s : Subs) (k : ℕ) (ws : List ℕ) → 1 ≤ s.least → records s k ws ≡ Good → length (flatten (slim_records s.least k ws)) ≡ k * s.least
+pub records_length : (s : Subs) (k : ℕ) (ws : List ℕ) → 1 ≤ s.least → records s k ws ≡ Ok tt → length (flatten (slim_records s.least k ws)) ≡ k * s.least
 unfolding records slim_records flatten
 records_length s zero ws h e = sym (zero-mul s.least)
 records_length s (suc k) ws h e =

@@ -1,9 +1,8 @@
 -- What the writers of slim forms do, and what they ask of a row and a block.
-use Rattle.std.specs.Prelude.{true, false, List, ◌≡◌, ℕ, ◌*◌, ◌≤◌, ◌<◌, length, drop}
+use Rattle.std.specs.Prelude.{true, false, List, ◌≡◌, ℕ, ◌*◌, ◌≤◌, ◌<◌, length, drop, Ok}
 use Rattle.words.specs.Words.{bytes_of}
 use Rattle.text.specs.Text.{Wrote}
 use Rattle.file_rules.specs.declared.Row.{Row}
-use Rattle.file_rules.specs.declared.Tested.TheVariants.{Good}
 use Rattle.file_rules.specs.Block.{least_of, records, nulled}
 use Rattle.file_rules.specs.Sound.{Sound}
 
@@ -22,4 +21,4 @@ pub record Cuts (r : Row) (b : List ℕ) : Type 0 where
   pub long : r.exact ≡ false → least_of r b ≤ length b
   pub short : r.exact ≡ false → length b < 256
   pub null : r.text ≡ true → nulled (drop 1 b) ≡ true
-  pub subs : records r.subs r.subs.count (drop 2 b) ≡ Good
+  pub subs : records r.subs r.subs.count (drop 2 b) ≡ Ok tt

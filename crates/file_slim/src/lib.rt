@@ -10,7 +10,7 @@ ghost use Rattle.file_rules.specs.Sound.{Sound};
 ghost use Rattle.file_slim.specs.Cut.{WroteWords, HasRoom, Cuts};
 
 use file_rules::{Row, least_of};
-use text::put::{put_byte, put_bytes};
+use text::put::put_bytes;
 use text::read::before_null;
 use words::{count, front, rest, word};
 
@@ -19,8 +19,7 @@ pub fn put_word(out: &mut [u8], w: u16) -> usize
     requires { 2 ≤ length out.old }
     ensures { WroteWords (w ∷ []) out.old out.new result }
 {
-    let a = put_byte(out, (w % 256) as u8);
-    a + put_byte(&mut out[a..], (w / 256) as u8)
+    put_bytes(out, &w.to_le_bytes())
 }
 
 // The words of a slice.
@@ -32,6 +31,7 @@ pub fn put_words(out: &mut [u8], b: &[u8]) -> usize
 }
 
 // The first word of a block or a sub-block, its count set to n.
+#[tactic(auto, unfolding(file_rules::specs::Slim::counted))]
 fn put_counted(out: &mut [u8], b: &[u8], n: usize) -> usize
     requires { (2 ≤ length out.old) × (n < 256) }
     ensures { WroteWords (counted n (words_of b.now) ∷ []) out.old out.new result }
@@ -93,12 +93,10 @@ fn put_records(out: &mut [u8], b: &[u8], row: Row) -> usize
 {
     let mut n = 0;
     let mut o = 0;
-    let mut left = row.subs.count;
-    while 0 < left {
+    for _ in 0..row.subs.count {
         let part = rest(b, o);
         n += put_cut(&mut out[n..], part, row.subs.least);
-        o += (word(part, 0) / 256) as usize;
-        left -= 1;
+        o += usize::from(word(part, 0) / 256);
     }
     n
 }

@@ -1,7 +1,7 @@
 // The tables of the 945 and of the 953, as data: what is asked of each listed block.
 #![tactic(auto)]
 
-ghost use Rattle.std.specs.Prelude.{◌≡◌, [], ◌∷◌, ◌+◌};
+ghost use Rattle.std.specs.Prelude.{◌≡◌, [], ◌+◌, ◌≤◌};
 ghost use Rattle.file_tables.specs.Table.{rule, within, equals, one_of, either_of, also, rules, no_subs, table_row, unit_row, title_row, settings_row, profiles_row, results_row, octave_row, third_row, statistics_row, histogram_row, band_rules, logger_row, unlisted, in_model, row_of};
 ghost use Rattle.file_rules.specs.declared.More.TheVariants.{Nothing};
 
@@ -50,10 +50,7 @@ fn either_of(off: u16, one: u16, two: u16, num: u8) -> Rule
 fn also(from: u16, upto: u16, rule: Rule) -> Rule
     ensures { result ≡ also from upto rule }
 {
-    let mut r = rule;
-    r.from = from;
-    r.upto = upto;
-    r
+    Rule { from, upto, ..rule }
 }
 
 // Fills up a list of rules, and is never asked.
@@ -65,46 +62,20 @@ const NO_RULE: Rule = Rule {
     upto: 0,
 };
 
+// Some rules, the list filled up to its four.
+fn rules<const N: usize>(first: [Rule; N]) -> Rules
+    requires { N ≤ 4 }
+    ensures { result ≡ rules first.entry }
+{
+    let mut list = [NO_RULE; 4];
+    list[..N].copy_from_slice(&first);
+    Rules { count: N, list }
+}
+
 const NO_RULES: Rules = Rules {
     count: 0,
-    list: [NO_RULE, NO_RULE, NO_RULE, NO_RULE],
+    list: [NO_RULE; 4],
 };
-
-fn one(a: Rule) -> Rules
-    ensures { result ≡ rules (a ∷ []) }
-{
-    Rules {
-        count: 1,
-        list: [a, NO_RULE, NO_RULE, NO_RULE],
-    }
-}
-
-fn two(a: Rule, b: Rule) -> Rules
-    ensures { result ≡ rules (a ∷ (b ∷ [])) }
-{
-    Rules {
-        count: 2,
-        list: [a, b, NO_RULE, NO_RULE],
-    }
-}
-
-fn three(a: Rule, b: Rule, c: Rule) -> Rules
-    ensures { result ≡ rules (a ∷ (b ∷ (c ∷ []))) }
-{
-    Rules {
-        count: 3,
-        list: [a, b, c, NO_RULE],
-    }
-}
-
-fn four(a: Rule, b: Rule, c: Rule, d: Rule) -> Rules
-    ensures { result ≡ rules (a ∷ (b ∷ (c ∷ (d ∷ [])))) }
-{
-    Rules {
-        count: 4,
-        list: [a, b, c, d],
-    }
-}
 
 const NO_SUBS: Subs = Subs {
     count: 0,
@@ -181,7 +152,7 @@ fn unit() -> Row
 {
     plain_more(
         6,
-        one(either_of(2, 945, 953, 5)),
+        rules([either_of(2, 945, 953, 5)]),
         More::Where {
             at: 2,
             is: 953,
@@ -197,20 +168,20 @@ fn settings(model: u16) -> Row
     if model == 953 {
         plain(
             28,
-            three(
+            rules([
                 one_of(3, 1, 2, 4, 8),
                 also(2, 2, one_of(14, 0, 2, 3, 8)),
                 also(2, 2, within(15, 0, 1, 8)),
-            ),
+            ]),
         )
     } else {
         plain(
             23,
-            three(
+            rules([
                 within(3, 1, 3, 8),
                 also(2, 3, within(21, 0, 3, 8)),
                 also(2, 3, within(22, 0, 1, 8)),
-            ),
+            ]),
         )
     }
 }
@@ -219,27 +190,28 @@ fn settings(model: u16) -> Row
 fn title() -> Row
     ensures { result ≡ title_row }
 {
-    let mut r = bare(2);
-    r.text = true;
-    r
+    Row {
+        text: true,
+        ..bare(2)
+    }
 }
 
 // Tab. B.1.5, special settings for profiles. Count 3 and mask 7 in word 1 of 05 and 07; mask 7 and count 3 in word 1 of 09.
 fn profiles(model: u16) -> Row
     ensures { result ≡ in_model model profiles_row }
 {
-    let head = one(equals(1, 0x0307, 6));
+    let head = rules([equals(1, 0x0307, 6)]);
     if model == 953 {
         with_subs(
             20,
             head,
-            three_subs(0x06, 6, two(one_of(2, 0, 2, 3, 8), within(3, 0, 15, 8))),
+            three_subs(0x06, 6, rules([one_of(2, 0, 2, 3, 8), within(3, 0, 15, 8)])),
         )
     } else {
         with_subs(
             20,
             head,
-            three_subs(0x06, 6, two(within(2, 1, 4, 8), within(3, 0, 4, 8))),
+            three_subs(0x06, 6, rules([within(2, 1, 4, 8), within(3, 0, 4, 8)])),
         )
     }
 }
@@ -248,7 +220,7 @@ fn profiles(model: u16) -> Row
 fn results(model: u16) -> Row
     ensures { result ≡ in_model model results_row }
 {
-    let head = one(equals(1, 0x0307, 6));
+    let head = rules([equals(1, 0x0307, 6)]);
     if model == 953 {
         with_subs(47, head, three_bare(0x08, 15))
     } else {
@@ -264,18 +236,18 @@ fn octave(model: u16) -> Row
     if model == 953 {
         plain_more(
             5,
-            four(
+            rules([
                 head,
                 rule(2, Kind::Band, 8),
                 rule(3, Kind::BandsFrom { first: 2 }, 8),
                 within(4, 0, 3, 8),
-            ),
+            ]),
             More::Counts { at: 3 },
         )
     } else {
         plain(
             23,
-            four(head, equals(2, 100, 8), equals(3, 15, 8), equals(4, 3, 8)),
+            rules([head, equals(2, 100, 8), equals(3, 15, 8), equals(4, 3, 8)]),
         )
     }
 }
@@ -286,12 +258,12 @@ fn third() -> Row
 {
     plain(
         53,
-        four(
+        rules([
             equals(1, 0x0101, 6),
             equals(2, 80, 8),
             equals(3, 45, 8),
             equals(4, 3, 8),
-        ),
+        ]),
     )
 }
 
@@ -299,16 +271,17 @@ fn third() -> Row
 fn statistics() -> Row
     ensures { result ≡ statistics_row }
 {
-    with_subs(14, one(equals(1, 0x0703, 6)), three_bare(0x0A, 4))
+    with_subs(14, rules([equals(1, 0x0703, 6)]), three_bare(0x0A, 4))
 }
 
 // Tab. B.1.13, statistics. The long form is allowed.
 pub fn histogram_row(classes: u16) -> Row
     ensures { result ≡ histogram_row classes }
 {
-    let mut r = bare(2 * (classes as usize) + 2);
-    r.exact = true;
-    r
+    Row {
+        exact: true,
+        ..bare(2 * (classes as usize) + 2)
+    }
 }
 
 // Words 3 to 5 of a logger header where a buffer record has bands: as words 2 to 4 of the spectrum.
@@ -316,8 +289,8 @@ fn band_rules(bands: u16) -> Rules
     ensures { result ≡ band_rules bands }
 {
     match bands {
-        18 => three(equals(3, 100, 8), equals(4, 15, 8), equals(5, 3, 8)),
-        48 => three(equals(3, 80, 8), equals(4, 45, 8), equals(5, 3, 8)),
+        18 => rules([equals(3, 100, 8), equals(4, 15, 8), equals(5, 3, 8)]),
+        48 => rules([equals(3, 80, 8), equals(4, 45, 8), equals(5, 3, 8)]),
         _ => NO_RULES,
     }
 }
@@ -326,22 +299,24 @@ fn band_rules(bands: u16) -> Rules
 pub fn logger_row(bands: u16, profiles: u16) -> Row
     ensures { result ≡ logger_row (band_rules bands) (profiles + bands) }
 {
-    let mut r = plain(8, band_rules(bands));
-    r.logger = true;
-    r.width = profiles as usize + bands as usize;
-    r
+    Row {
+        logger: true,
+        width: profiles as usize + bands as usize,
+        ..plain(8, band_rules(bands))
+    }
 }
 
 // A block that is not listed.
 fn unlisted() -> Row
     ensures { result ≡ unlisted }
 {
-    let mut r = bare(0);
-    r.listed = false;
-    r
+    Row {
+        listed: false,
+        ..bare(0)
+    }
 }
 
-// The row of an id in a model, where no other block before it matters.
+// The row of an id in a model, where no other block before it matters. Both are words of a file and no enums: it answers for any.
 pub fn row_of(model: u16, id: u16) -> Row
     ensures { result ≡ row_of model id }
 {

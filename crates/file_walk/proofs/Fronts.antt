@@ -14,14 +14,6 @@ use Rattle.words.proofs.WordLaws.{Below}
 use Rattle.file_refusal.specs.Refusal.{is_of_file}
 use Rattle.file_walk.specs.Walk.{Front, refused, ended, cut, end_marker, long_form, fitted, fronted, front_of, raw_of}
 
-abbrev kind : Front → ℕ
-kind (refused num) = 0
-kind ended = 1
-kind (cut k) = 2
-
-apart : {a b : Front} → eqb (kind a) (kind b) ≡ false → a ≡ b → ⊥
-apart h e = eqb-false _ _ h (ap kind e)
-
 -- ---- a block
 
 -- a block of k words, where n are left, by its first two words w and v
@@ -32,12 +24,17 @@ pub record Cuts (w v n k : ℕ) : Type 0 where
   pub size : ((long_form w ≡ true) × (2 ≤ v) × (k ≡ v)) ⊎ ((long_form w ≡ false) × (k ≡ high w))
 
 -- what `fronted` says after the test for the end marker, where t says whether the block has its length in word 1
-abbrev sized : Bool → ℕ → ℕ → ℕ → Front
+abbrev pub sized : Bool → ℕ → ℕ → ℕ → Front
 sized t w v n = cond t (cond (ltb n 2) (refused 2) (cond (ltb v 2) (refused 3) (fitted n v))) (fitted n (high w))
+
+-- where there is a word, and it is not the end marker
+pub sized_front : (w v n : ℕ) → (n ≡ 0 → ⊥) → (w ≡ end_marker → ⊥) → fronted w v n ≡ sized (long_form w) w v n
+unfolding fronted
+sized_front w v n some no_end = simp (ne_eqb n 0 some, ne_eqb w end_marker no_end)
 
 fitted_cuts : (n l k : ℕ) → fitted n l ≡ cut k → (l ≤ n) × (k ≡ l)
 fitted_cuts n l k e =
-    let p = cond_second (ltb n l) e (apart refl) in
+    let p = cond_second (ltb n l) e (λ h. cc) in
     let f : cut l ≡ cut k = p.1 in
     (ltb-false _ _ p.0, cc)
 
@@ -51,14 +48,14 @@ short_some w l =
 pub fronted_cuts : (w v n k : ℕ) → fronted w v n ≡ cut k → Cuts w v n k
 unfolding fronted
 fronted_cuts w v n k e =
-    let p = cond_second (eqb n 0) e (apart refl) in
-    let q = cond_second (eqb w end_marker) p.1 (apart refl) in
+    let p = cond_second (eqb n 0) e (λ h. cc) in
+    let q = cond_second (eqb w end_marker) p.1 (λ h. cc) in
     go (long_form w) refl q.1 (eqb-false _ _ q.0)
   where
     go : (t : Bool) → long_form w ≡ t → sized t w v n ≡ cut k → (w ≡ end_marker → ⊥) → Cuts w v n k
     go true l f h =
-        let a = cond_second (ltb n 2) f (apart refl) in
-        let b = cond_second (ltb v 2) a.1 (apart refl) in
+        let a = cond_second (ltb n 2) f (λ h. cc) in
+        let b = cond_second (ltb v 2) a.1 (λ h. cc) in
         let s = fitted_cuts n v k b.1 in
         let two : 2 ≤ v = ltb-false _ _ b.0 in
         record { some = omega arith; fits = omega arith; no_end = h; size = inl (l, two, s.1) }
@@ -81,19 +78,19 @@ cuts_fronted w v v' n m k c h e = go c.size
 
 pub ended_some : (w v n : ℕ) → fronted w v n ≡ ended → 0 < n
 unfolding fronted
-ended_some w v zero e = absurd (apart refl e)
+ended_some w v zero e = cc
 ended_some w v (suc n) e = omega arith
 
 fitted_not_ended : (n k : ℕ) → fitted n k ≡ ended → ⊥
-fitted_not_ended n k e = apart refl (cond_second (ltb n k) e (apart refl)).1
+fitted_not_ended n k e = let p = cond_second (ltb n k) e (λ h. cc) in cc
 
 sized_not_ended : (t : Bool) (w v n : ℕ) → sized t w v n ≡ ended → ⊥
-sized_not_ended true w v n e = fitted_not_ended n v (cond_second (ltb v 2) (cond_second (ltb n 2) e (apart refl)).1 (apart refl)).1
+sized_not_ended true w v n e = fitted_not_ended n v (cond_second (ltb v 2) (cond_second (ltb n 2) e (λ h. cc)).1 (λ h. cc)).1
 sized_not_ended false w v n e = fitted_not_ended n (high w) e
 
 pub ended_marker : (w v n : ℕ) → fronted w v n ≡ ended → w ≡ end_marker
 unfolding fronted
-ended_marker w v n e = go (eqb w end_marker) refl (cond_second (eqb n 0) e (apart refl)).1
+ended_marker w v n e = go (eqb w end_marker) refl (cond_second (eqb n 0) e (λ h. cc)).1
   where
     go : (t : Bool) → eqb w end_marker ≡ t → cond t ended (sized (long_form w) w v n) ≡ ended → w ≡ end_marker
     go true t f = eqb-true _ _ t

@@ -9,6 +9,7 @@ use lib.Dec.{ltb}
 use lib.ListN.{length, get_or, take, drop, length-drop}
 use lib.Seq.{drop-drop, get_or-take}
 use borrow.Author.Tests.{ltb-true, ltb-false, lt-ltb, le-ltb}
+use Rattle.std.specs.Prelude.{Result, Ok, Err}
 use Rattle.words.specs.Words.{low, high}
 use Rattle.words.proofs.Choice.{cond_second}
 use Rattle.file_refusal.specs.Refusal.{refusal}
@@ -16,8 +17,7 @@ use Rattle.file_walk.specs.Walk.{Front, refused, ended, cut, front_of, raw_of, W
 use Rattle.file_walk.specs.declared.Cursor.{Cursor}
 use Rattle.file_walk.specs.declared.Stop.{Stop}
 use Rattle.file_walk.specs.declared.Stop.TheVariants.{End, Refused}
-use Rattle.file_walk.specs.declared.Step.{Step}
-use Rattle.file_walk.specs.declared.Step.TheVariants.{Block, Over}
+use Rattle.file_walk.specs.declared.Block.{Block}
 use Rattle.file_walk.proofs.Fronts.{front_cuts, front_ended}
 
 -- ---- the walk, by what stands at its front
@@ -47,70 +47,66 @@ pub walk_start : (ws : List ℕ) → walk_from (suc (length ws)) ws (record { at
 unfolding walk_from walked
 walk_start ws = rw (le-ltb (length ws) 0 (omega arith))
 
-pub walk_over : (m : ℕ) (ws : List ℕ) (c : Cursor) (s : Stop) → step_at ws c ≡ Over s → walk_from (suc m) ws c ≡ over s
+pub walk_over : (m : ℕ) (ws : List ℕ) (c : Cursor) (s : Stop) → step_at ws c ≡ Err s → walk_from (suc m) ws c ≡ over s
 unfolding walk_from step_at stepped
 walk_over m ws c s e = past _ (ltb (length ws) c.at) e
   where
     vs : List ℕ
     vs = drop c.at ws
 
-    here : (f : Front) → front_of vs ≡ f → stepped c.at vs f ≡ Over s → walk (suc m) c.at vs ≡ over s
+    here : (f : Front) → front_of vs ≡ f → stepped c.at vs f ≡ Err s → walk (suc m) c.at vs ≡ over s
     here (refused num) q h = walk_refused m c.at vs num q ∙ cc
     here ended q h = walk_ended m c.at vs q ∙ cc
     here (cut k) q h = cc
 
-    past : (o : Stop) (t : Bool) → cond t (Over o) (stepped c.at vs (front_of vs)) ≡ Over s → cond t (over o) (walk (suc m) c.at vs) ≡ over s
+    past : (o : Stop) (t : Bool) → cond t (Err o) (stepped c.at vs (front_of vs)) ≡ Err s → cond t (over o) (walk (suc m) c.at vs) ≡ over s
     past o true h = cc
     past o false h = here (front_of vs) refl h
 
 -- a step that is no refusal of raw words, by what stands at the cursor
-step_front : (ws : List ℕ) (c : Cursor) (s : Step) → step_at ws c ≡ s → (Over (Refused (refusal 2 c.last)) ≡ s → ⊥)
+step_front : (ws : List ℕ) (c : Cursor) (s : Result Block Stop) → step_at ws c ≡ s → (Err (Refused (refusal 2 c.last)) ≡ s → ⊥)
     → (c.at ≤ length ws) × (stepped c.at (drop c.at ws) (front_of (drop c.at ws)) ≡ s)
 unfolding step_at
 step_front ws c s e never = let p = cond_second (ltb (length ws) c.at) e never in (ltb-false _ _ p.0, p.1)
 
 -- ---- a step that answers a block
 
-pub record Stepped (ws : List ℕ) (c : Cursor) (id nn start len : ℕ) (next : Cursor) : Type 0 where
-  pub here : start ≡ c.at
-  pub some : 1 ≤ len
-  pub fits : start + len ≤ length ws
-  pub front : front_of (drop start ws) ≡ cut len
-  pub id_is : id ≡ low (get_or (take len (drop start ws)) 0 0)
-  pub nn_is : nn ≡ high (get_or (take len (drop start ws)) 0 0)
-  pub on : next.at ≡ start + (len + raw_of (take len (drop start ws)))
-  pub last_is : next.last ≡ start
+pub record Stepped (ws : List ℕ) (c : Cursor) (b : Block) : Type 0 where
+  pub here : b.start ≡ c.at
+  pub some : 1 ≤ b.length
+  pub fits : b.start + b.length ≤ length ws
+  pub front : front_of (drop b.start ws) ≡ cut b.length
+  pub id_is : b.id ≡ low (get_or (take b.length (drop b.start ws)) 0 0)
+  pub nn_is : b.nn ≡ high (get_or (take b.length (drop b.start ws)) 0 0)
+  pub on : b.next.at ≡ b.start + (b.length + raw_of (take b.length (drop b.start ws)))
+  pub last_is : b.next.last ≡ b.start
 
-pub step_block : (ws : List ℕ) (c : Cursor) (id nn start len : ℕ) (next : Cursor) → step_at ws c ≡ Block id nn start len next → Stepped ws c id nn start len next
+pub step_block : (ws : List ℕ) (c : Cursor) (b : Block) → step_at ws c ≡ Ok b → Stepped ws c b
 unfolding stepped
-step_block ws c id nn start len next e =
-    let p = step_front ws c _ e (λ h. let z : ◌≡◌ {A = ℕ} 0 1 = cc in omega arith) in
+step_block ws c b e =
+    let p = step_front ws c _ e (λ h. cc) in
     go (front_of vs) refl p.0 p.1
   where
     vs : List ℕ
     vs = drop c.at ws
 
-    go : (f : Front) → front_of vs ≡ f → c.at ≤ length ws → stepped c.at vs f ≡ Block id nn start len next → Stepped ws c id nn start len next
-    go (refused num) q h g = let z : ◌≡◌ {A = ℕ} 0 1 = cc in absurd (omega arith)
-    go ended q h g = let z : ◌≡◌ {A = ℕ} 0 1 = cc in absurd (omega arith)
+    go : (f : Front) → front_of vs ≡ f → c.at ≤ length ws → stepped c.at vs f ≡ Ok b → Stepped ws c b
+    go (refused num) q h g = cc
+    go ended q h g = cc
     go (cut k) q h g =
-        let a : c.at ≡ start = cc in
-        let b : k ≡ len = cc in
-        let i : id ≡ low (get_or vs 0 0) = cc in
-        let j : nn ≡ high (get_or vs 0 0) = cc in
-        let n : next ≡ record { at = c.at + (k + raw_of (take k vs)); last = c.at } = cc in
+        let is : record { id = low (get_or vs 0 0); nn = high (get_or vs 0 0); start = c.at; length = k; next = record { at = c.at + (k + raw_of (take k vs)); last = c.at } } ≡ b = cc in
         let cuts = front_cuts vs k q in
         let w = get_or-take k vs 0 0 cuts.some in
-        rw (← a, ← b)
+        rw (← is)
         (record {
           here = refl;
           some = cuts.some;
           fits = omega (arith, cuts.fits, length-drop c.at ws);
           front = q;
-          id_is = rw w i;
-          nn_is = rw w j;
-          on = ap (λ (x : Cursor). x.at) n;
-          last_is = ap (λ (x : Cursor). x.last) n;
+          id_is = rw w;
+          nn_is = rw w;
+          on = refl;
+          last_is = refl;
         })
 
 -- raw words that pass the last word of the file, and those that pass the last word that is left
@@ -121,11 +117,14 @@ same_test n k r h = go (ltb n (k + r)) refl
     go true e = lt-ltb (n - k) r (omega (arith, ltb-true n (k + r) e))
     go false e = le-ltb (n - k) r (omega (arith, ltb-false n (k + r) e))
 
-pub walk_block : (m : ℕ) (ws : List ℕ) (c : Cursor) (id nn start len : ℕ) (next : Cursor) → step_at ws c ≡ Block id nn start len next
-    → walk_from (suc m) ws c ≡ block start (take len (drop start ws)) (take (raw_of (take len (drop start ws))) (drop (start + len) ws)) (walk_from m ws next)
+pub walk_block : (m : ℕ) (ws : List ℕ) (c : Cursor) (b : Block) → step_at ws c ≡ Ok b
+    → walk_from (suc m) ws c
+    ≡ block b.start (take b.length (drop b.start ws)) (take (raw_of (take b.length (drop b.start ws))) (drop (b.start + b.length) ws)) (walk_from m ws b.next)
 unfolding walk_from
-walk_block m ws c id nn start len next e =
-    let s = step_block ws c id nn start len next e in
+walk_block m ws c b e =
+    let s = step_block ws c b e in
+    let start = b.start in
+    let len = b.length in
     let raw = raw_of (take len (drop start ws)) in
     let here : walk_from (suc m) ws c ≡ walk (suc m) start (drop start ws) =
     rw (le-ltb (length ws) c.at (omega arith)) (ap (λ (a : ℕ). walk (suc m) a (drop a ws)) (sym s.here)) in
@@ -135,19 +134,19 @@ walk_block m ws c id nn start len next e =
 
 -- ---- a step that answers the end marker
 
-pub end_bounds : (ws : List ℕ) (c : Cursor) (p left : ℕ) → step_at ws c ≡ Over (End p left) → (p ≡ c.at) × (p + 1 + left ≡ length ws)
+pub end_bounds : (ws : List ℕ) (c : Cursor) (p left : ℕ) → step_at ws c ≡ Err (End p left) → (p ≡ c.at) × (p + 1 + left ≡ length ws)
 unfolding stepped
 end_bounds ws c p left e =
-    let q = step_front ws c _ e (λ h. let z : ◌≡◌ {A = ℕ} 0 1 = cc in omega arith) in
+    let q = step_front ws c _ e (λ h. cc) in
     go (front_of vs) refl q.0 q.1
   where
     vs : List ℕ
     vs = drop c.at ws
 
-    go : (f : Front) → front_of vs ≡ f → c.at ≤ length ws → stepped c.at vs f ≡ Over (End p left) → (p ≡ c.at) × (p + 1 + left ≡ length ws)
-    go (refused num) q h g = let z : ◌≡◌ {A = ℕ} 0 1 = cc in absurd (omega arith)
+    go : (f : Front) → front_of vs ≡ f → c.at ≤ length ws → stepped c.at vs f ≡ Err (End p left) → (p ≡ c.at) × (p + 1 + left ≡ length ws)
+    go (refused num) q h g = cc
     go ended q h g =
         let a : p ≡ c.at = cc in
         let b : length vs - 1 ≡ left = cc in
         (a, omega (arith, (front_ended vs q).1, length-drop c.at ws))
-    go (cut k) q h g = let z : ◌≡◌ {A = ℕ} 0 1 = cc in absurd (omega arith)
+    go (cut k) q h g = cc

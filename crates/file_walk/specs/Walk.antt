@@ -1,12 +1,11 @@
 -- The words of a file, cut into blocks (document 01, Walking the blocks). No table stands here.
-use Rattle.std.specs.Prelude.{Bool, cond, ◌||◌, List, [], ◌∷◌, ◌++◌, ◌≡◌, ℕ, zero, suc, ◌+◌, ◌-◌, ◌/◌, eqb, ltb, length, get_or, take, drop}
+use Rattle.std.specs.Prelude.{Bool, cond, ◌||◌, List, [], ◌∷◌, ◌++◌, ◌≡◌, ℕ, zero, suc, ◌+◌, ◌-◌, ◌/◌, eqb, ltb, length, get_or, take, drop, Result, Ok, Err}
 use Rattle.words.specs.Words.{low, high, long_at}
 use Rattle.file_refusal.specs.Refusal.{refusal}
 use Rattle.file_walk.specs.declared.Cursor.{Cursor}
 use Rattle.file_walk.specs.declared.Stop.{Stop}
 use Rattle.file_walk.specs.declared.Stop.TheVariants.{End, Refused}
-use Rattle.file_walk.specs.declared.Step.{Step}
-use Rattle.file_walk.specs.declared.Step.TheVariants.{Block, Over}
+use Rattle.file_walk.specs.declared.Block.{Block}
 
 -- "FFFF at a block start is the end marker"
 abbrev pub end_marker : ℕ
@@ -63,16 +62,22 @@ unfoldable pub walked : List ℕ → Walk
 walked ws = walk (suc (length ws)) 0 ws
 
 -- one step of the walk, over words ws that start at word `at`
-unfoldable pub stepped : ℕ → List ℕ → Front → Step
-stepped at ws (refused num) = Over (Refused (refusal num at))
-stepped at ws ended = Over (End at (length ws - 1))
+unfoldable pub stepped : ℕ → List ℕ → Front → Result Block Stop
+stepped at ws (refused num) = Err (Refused (refusal num at))
+stepped at ws ended = Err (End at (length ws - 1))
 stepped at ws (cut k) =
-    Block (low (get_or ws 0 0)) (high (get_or ws 0 0)) at k (record { at = at + (k + raw_of (take k ws)); last = at })
+    Ok (record {
+      id = low (get_or ws 0 0);
+      nn = high (get_or ws 0 0);
+      start = at;
+      length = k;
+      next = record { at = at + (k + raw_of (take k ws)); last = at };
+    })
 
 -- a cursor past the last word was led there by the raw words of the block before it
-unfoldable pub step_at : List ℕ → Cursor → Step
+unfoldable pub step_at : List ℕ → Cursor → Result Block Stop
 step_at ws c =
-    cond (ltb (length ws) c.at) (Over (Refused (refusal 2 c.last)))
+    cond (ltb (length ws) c.at) (Err (Refused (refusal 2 c.last)))
     (stepped c.at (drop c.at ws) (front_of (drop c.at ws)))
 
 -- a block and the raw words after it

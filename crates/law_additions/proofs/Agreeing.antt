@@ -16,10 +16,12 @@ use Rattle.file_rules.specs.declared.More.{More}
 use Rattle.file_rules.specs.declared.More.TheVariants.{Nothing, Where, Counts}
 use Rattle.file_rules.specs.declared.Rule.{Rule}
 use Rattle.file_rules.specs.declared.Row.{Row}
-use Rattle.file_rules.specs.declared.Tested.{Tested}
-use Rattle.file_rules.specs.declared.Tested.TheVariants.{Good}
 use Rattle.file_rules.specs.Block.{allows, in_force, more_of, least_of, obeyed, ruled, whole_records, buffered}
 use Rattle.file_rules.specs.Sound.{among, looks, counts, asks, inside}
+use Rattle.file_refusal.specs.declared.Refusal.{Refusal}
+use Rattle.std.specs.declared.result.Result.TheVariants.{Ok}
+use Rattle.std.specs.declared.result.Result.{Result}
+use Rattle.std.specs.Prelude.{⊤}
 
 -- from word 1 up to word n
 pub record Agree (n : ℕ) (b b' : List ℕ) : Type 0 where
@@ -78,7 +80,7 @@ module _ {n : ℕ} {b b' : List ℕ} (a : Agree n b b') where
   unfolding buffered
   buffered_agree r h = go _ r.logger refl
     where
-      go : (x : Tested) (t : Bool) → r.logger ≡ t → cond t (cond (whole_records r.width (long_at b' 6)) Good x) Good ≡ cond t (cond (whole_records r.width (long_at b 6)) Good x) Good
+      go : (x : Result ⊤ Refusal) (t : Bool) → r.logger ≡ t → cond t (cond (whole_records r.width (long_at b' 6)) (Ok tt) x) (Ok tt) ≡ cond t (cond (whole_records r.width (long_at b 6)) (Ok tt) x) (Ok tt)
       go x true q = rw (long_agree (h q))
       go x false q = refl
 

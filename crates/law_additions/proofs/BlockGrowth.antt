@@ -5,7 +5,6 @@ use Prim.Native.Nat.{suc}
 use lib.ListN.{length, get_or}
 use Rattle.words.specs.Words.{low}
 use Rattle.file_walk.specs.Walk.{Part, Whole}
-use Rattle.file_rules.specs.declared.Tested.TheVariants.{Good}
 use Rattle.file_rules.specs.Block.{nulled, readable, kept}
 use Rattle.file_rules.specs.Slim.{counted}
 use Rattle.file_rules.proofs.BlockLaws.{kept_says}
@@ -19,15 +18,16 @@ use Rattle.law_additions.proofs.RecordGrowth.{counted_low}
 use Rattle.law_additions.proofs.FirstWord.{same_row, same_key}
 use Rattle.law_additions.proofs.TableGrowth.{is, table_good, table_slim, table_whole}
 use Rattle.law_additions.proofs.TitleGrowth.{said, is_text_lem, title_good, title_slim, title_whole}
+use Rattle.std.specs.declared.result.Result.TheVariants.{Ok}
 
 pub record Same (s : Setup) (p p' : Part) : Type 0 where
   pub id : low (get_or p'.words 0 0) ≡ low (get_or p.words 0 0)
   pub key : key_of (get_or p'.words 0 0) ≡ key_of (get_or p.words 0 0)
-  pub good : kept (row_for s (get_or p'.words 0 0)) p'.words ≡ Good
+  pub good : kept (row_for s (get_or p'.words 0 0)) p'.words ≡ Ok tt
   pub whole : Whole p → Whole p'
   pub slim : slim_of s p'.words p'.raw ≡ slim_of s p.words p.raw
 
-pub grown_same : {p p' : Part} → Grown p p' → (s : Setup) → kept (row_for s (get_or p.words 0 0)) p.words ≡ Good → Same s p p'
+pub grown_same : {p p' : Part} → Grown p p' → (s : Setup) → kept (row_for s (get_or p.words 0 0)) p.words ≡ Ok tt → Same s p p'
 unfolding recounted counted readable
 grown_same (as_is p) s g = record { id = refl; key = refl; good = g; whole = λ w. w; slim = refl }
 grown_same (table h w {t} {t'} raw may rs) s g =

@@ -9,13 +9,13 @@ use lib.Seq.{take-append-le, drop-append_seam}
 use borrow.Author.Tests.{eq-eqb, le-leb}
 use Rattle.words.specs.Words.{low, high}
 use Rattle.file_rules.specs.declared.Subs.{Subs}
-use Rattle.file_rules.specs.declared.Tested.TheVariants.{Good}
 use Rattle.file_rules.specs.Block.{then, offset_by, rules_in, recorded, records}
 use Rattle.file_rules.specs.Slim.{counted, cut_to, slim_records}
 use Rattle.file_rules.proofs.BlockLaws.{then_good, offset_good, Recorded, recorded_says}
 use Rattle.file_rules.specs.Sound.{inside}
 use Rattle.law_additions.specs.Additions.{recounted, Records, rest, next}
 use Rattle.law_additions.proofs.Agreeing.{Agree, ruled_agree}
+use Rattle.std.specs.declared.result.Result.TheVariants.{Ok}
 
 -- a first word whose count is set
 pub counted_low : (h n : ℕ) → low (low h + 256 * n) ≡ low h
@@ -29,7 +29,7 @@ pub recounted_is : (h : ℕ) (t : List ℕ) → recounted (h ∷ t) ≡ (low h +
 unfolding recounted counted
 recounted_is h t = refl
 
-says_recorded : (s : Subs) (ws : List ℕ) → Recorded s ws → recorded s ws ≡ Good
+says_recorded : (s : Subs) (ws : List ℕ) → Recorded s ws → recorded s ws ≡ Ok tt
 unfolding recorded
 says_recorded s ws r = simp (eq-eqb _ _ r.id, le-leb _ _ r.least, le-leb _ _ r.fits, r.rules)
 
@@ -48,7 +48,7 @@ module _ (h h' : ℕ) (x more t t' : List ℕ) (low_same : low h' ≡ low h) whe
       rw (append_assoc x more t', take-append-le (n - 1) x (more ++ t') l, take-append-le (n - 1) x t l, low_same)
 
   module _ (c : high h ≡ suc (length x)) (c' : high h' ≡ suc (length (x ++ more))) where
-    recorded_longer : (s : Subs) → inside s.least (rules_in s.rules) ≡ true → recorded s (h ∷ (x ++ t)) ≡ Good → recorded s (h' ∷ ((x ++ more) ++ t')) ≡ Good
+    recorded_longer : (s : Subs) → inside s.least (rules_in s.rules) ≡ true → recorded s (h ∷ (x ++ t)) ≡ Ok tt → recorded s (h' ∷ ((x ++ more) ++ t')) ≡ Ok tt
     recorded_longer s i g =
         let r = recorded_says s (h ∷ (x ++ t)) g in
         let near : Agree s.least (h ∷ (x ++ t)) (h' ∷ ((x ++ more) ++ t')) = record { word = λ k p q. same_word k p (omega (arith, r.least)) } in
@@ -65,8 +65,8 @@ after_record : (h : ℕ) (x t : List ℕ) → high h ≡ suc (length x) → drop
 after_record h x t c = rw c (drop-append_seam x t)
 
 module _ (s : Subs) (i : inside s.least (rules_in s.rules) ≡ true) where
-  pub records_grow : {k : ℕ} {t t' : List ℕ} → Records k t t' → records s k t ≡ Good
-      → (records s k t' ≡ Good) × (slim_records s.least k t' ≡ slim_records s.least k t)
+  pub records_grow : {k : ℕ} {t t' : List ℕ} → Records k t t' → records s k t ≡ Ok tt
+      → (records s k t' ≡ Ok tt) × (slim_records s.least k t' ≡ slim_records s.least k t)
   unfolding records slim_records then offset_by
   records_grow (rest t more) g = (refl, refl)
   records_grow (next {k} h x more {t} {t'} c rs) g =
@@ -76,7 +76,7 @@ module _ (s : Subs) (i : inside s.least (rules_in s.rules) ≡ true) where
       let q = then_good (recorded s (h ∷ (x ++ t))) _ g in
       let p = after_record h x t c in
       let p' = after_record h' (x ++ more) t' c' in
-      let g' : records s k t ≡ Good = sym (ap (records s k) p) ∙ offset_good (high h) (records s k (drop (high h) (h ∷ (x ++ t)))) q.1 in
+      let g' : records s k t ≡ (Ok tt) = sym (ap (records s k) p) ∙ offset_good (high h) (records s k (drop (high h) (h ∷ (x ++ t)))) q.1 in
       let ih = records_grow rs g' in
       let least : s.least ≤ suc (length x) = omega (arith, (recorded_says s (h ∷ (x ++ t)) q.0).least) in (
         rw (recounted_is h (x ++ more), recorded_longer h h' x more t t' l c c' s i q.0, p', ih.0),

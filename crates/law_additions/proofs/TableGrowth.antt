@@ -13,7 +13,6 @@ use Rattle.words.specs.Words.{low, high}
 use Rattle.words.proofs.Choice.{and_both}
 use Rattle.file_walk.specs.Walk.{Whole}
 use Rattle.file_rules.specs.declared.Row.{Row}
-use Rattle.file_rules.specs.declared.Tested.TheVariants.{Good}
 use Rattle.file_rules.specs.Block.{least_of, rules_in, sized, readable, kept}
 use Rattle.file_rules.specs.Slim.{counted, cut_to, slim_records, head_by, slim_by}
 use Rattle.file_rules.specs.Sound.{front_words}
@@ -26,6 +25,7 @@ use Rattle.law_additions.specs.Additions.{may_grow, Records, rest, next}
 use Rattle.law_additions.proofs.Agreeing.{Agree, ruled_agree, least_agree, buffered_agree, raw_agree}
 use Rattle.law_additions.proofs.RecordGrowth.{counted_low, counted_high, records_grow, records_length}
 use Rattle.law_additions.proofs.FirstWord.{same_row, logger_row_lem, counted_front}
+use Rattle.std.specs.declared.result.Result.TheVariants.{Ok}
 
 -- the block h ∷ w ∷ t, and the same with another count and t' after word 1
 module _ (h h' w : ℕ) where
@@ -73,7 +73,7 @@ module _ (s : Setup) (h w : ℕ) {t t' : List ℕ} (raw : List ℕ) (may : may_g
   grown_by : Records row.subs.count t t'
   grown_by = rw (row_subs s h) grown
 
-  module _ (g : kept row (h ∷ (w ∷ t)) ≡ Good) where
+  module _ (g : kept row (h ∷ (w ∷ t)) ≡ Ok tt) where
     was : Kept row (h ∷ (w ∷ t))
     was = kept_says row (h ∷ (w ∷ t)) g
 
@@ -84,7 +84,7 @@ module _ (s : Setup) (h w : ℕ) {t t' : List ℕ} (raw : List ℕ) (may : may_g
     least_same : least_of row (h₁ ∷ (w ∷ t')) ≡ least_of row (h ∷ (w ∷ t))
     least_same = least_agree near row (each_sound s h).more
 
-    pub table_good : kept row (h₁ ∷ (w ∷ t')) ≡ Good
+    pub table_good : kept row (h₁ ∷ (w ∷ t')) ≡ Ok tt
     unfolding sized readable
     table_good =
         let sound = each_sound s h in

@@ -11,7 +11,6 @@ use Rattle.words.proofs.Choice.{and_both}
 use Rattle.text.specs.Text.{before_null}
 use Rattle.file_walk.specs.Walk.{raw_of, Whole}
 use Rattle.file_rules.specs.declared.Row.{Row}
-use Rattle.file_rules.specs.declared.Tested.TheVariants.{Good}
 use Rattle.file_rules.specs.Block.{least_of, ruled, rules_in, records, sized, nulled, readable, buffered, kept}
 use Rattle.file_rules.specs.Slim.{counted, cut_text, slim_records, head_by, slim_by}
 use Rattle.file_rules.specs.Sound.{Text}
@@ -24,6 +23,7 @@ use Rattle.law_additions.specs.Additions.{is_text}
 use Rattle.law_additions.proofs.RecordGrowth.{counted_low, counted_high}
 use Rattle.law_additions.proofs.TextGrowth.{nulled_some, text_same}
 use Rattle.law_additions.proofs.FirstWord.{same_row, logger_row_lem, counted_front}
+use Rattle.std.specs.declared.result.Result.TheVariants.{Ok}
 
 module _ (s : Setup) (h : ℕ) (t t' raw : List ℕ) (may : is_text (kind_of (low h)) ≡ true) (null : nulled t' ≡ true) (text : before_null (bytes_of t') ≡ before_null (bytes_of t)) where
   abbrev own_title_row : Row
@@ -39,7 +39,7 @@ module _ (s : Setup) (h : ℕ) (t t' raw : List ℕ) (may : is_text (kind_of (lo
   pub is_text_lem : Text own_title_row
   is_text_lem = (each_sound s h).text (row_text s h ∙ said.1)
 
-  pub title_good : kept own_title_row (h ∷ t) ≡ Good → kept own_title_row (h₂ ∷ t') ≡ Good
+  pub title_good : kept own_title_row (h ∷ t) ≡ Ok tt → kept own_title_row (h₂ ∷ t') ≡ Ok tt
   unfolding least_of sized readable rules_in ruled buffered records
   title_good g =
       says_kept own_title_row (h₂ ∷ t')

@@ -1,6 +1,6 @@
 -- The starred cases of document 01's page, Checked files, in one list: 1 to 5, 8 and 9; "Checked file 3 becomes 3 at 12" (request
 -- T-01).
-use Rattle.std.specs.Prelude.{List, [], ◌∷◌, ◌++◌, ◌≡◌, ℕ, length, get_or, replicate}
+use Rattle.std.specs.Prelude.{List, [], ◌∷◌, ◌++◌, ◌≡◌, ℕ, length, get_or, replicate, Option, None}
 use Rattle.words.specs.Words.{words_of, bytes_of}
 use Rattle.text.specs.Ascii.{ascii}
 use Rattle.units.specs.Level.{level, tenths}
@@ -8,9 +8,8 @@ use Rattle.file_walk.specs.Walk.{end_marker}
 use Rattle.file_rules.specs.Slim.{Slim}
 use Rattle.call_check.specs.Starts.{absent}
 use Rattle.call_check.specs.Check.{verdict, values}
-use Rattle.call_title.specs.declared.TitleAt.{TitleAt}
-use Rattle.call_title.specs.declared.TitleAt.TheVariants.{Text, Label}
-use Rattle.call_title.specs.Title.{title_at}
+use Rattle.call_title.specs.declared.Span.{Span}
+use Rattle.call_title.specs.Title.{span, title_at}
 use Rattle.call_slim.specs.Copy.{slim_copy, slim_reply, output_by}
 use Rattle.sheet_page.specs.Rows.{texts}
 use Rattle.sheet_page.specs.Sheet.{result_lines, sheet_texts}
@@ -23,7 +22,7 @@ pub record Case : Type 0 where
   pub file : List ℕ
   pub words : ℕ
   pub values : List ℕ
-  pub title : TitleAt
+  pub title : Option Span
   pub slim : List ℕ
   pub slim_words : ℕ
   pub sheet : List ℕ
@@ -53,7 +52,7 @@ AllSo (x ∷ xs) = IsSo x × AllSo xs
 -- a refused file of n words, by number and position
 unfoldable pub refused : List ℕ → ℕ → ℕ → ℕ → Starred
 refused bytes n num at =
-    file (record { file = bytes; words = n; values = num ∷ (at ∷ []); title = Label; slim = []; slim_words = 0; sheet = [] })
+    file (record { file = bytes; words = n; values = num ∷ (at ∷ []); title = None; slim = []; slim_words = 0; sheet = [] })
 
 -- ---- the blocks of file 8: "All blocks of least length, .. unstated words 0"
 
@@ -115,7 +114,7 @@ accepted more n at =
       file = bytes_of (buffer_file more);
       words = n;
       values = 0 ∷ (1 ∷ (0 ∷ (12 ∷ (18 ∷ (22 ∷ (45 ∷ (absent ∷ (absent ∷ (absent ∷ (at ∷ []))))))))));
-      title = Text 38 4;
+      title = span 38 4;
       slim = buffer_file [];
       slim_words = 78;
       sheet = nine_lines;

@@ -4,9 +4,6 @@ use mathlib.Core.Path.{◌≡◌, refl, ap, ◌∙◌}
 use Prim.Native.Nat.{ℕ}
 use native.Mathlib.Omega.{arith}
 use lib.ListN.{length, drop}
-use Rattle.call_check.specs.declared.judge.Judged.{Judged}
-use Rattle.call_check.specs.declared.judge.Judged.TheVariants.{Passed, Refused}
-use Rattle.call_check.specs.declared.check.Answer.TheVariants.{Accepted}
 use Rattle.call_check.specs.Judge.{surveyed}
 use Rattle.call_check.specs.Check.{answered, verdict}
 use Rattle.file_rules.specs.Slim.{Slim}
@@ -17,15 +14,18 @@ use Rattle.words.specs.Words.{bytes_of}
 use Rattle.call_slim.specs.Copy.{slim_words, slim_copy, Slimmed}
 use Rattle.call_slim.specs.Copy as Copy
 use Rattle.call_slim.specs.Parts.{IsAccepted}
-use Rattle.call_slim.specs.declared.Reply as SlimAnswer
 use Rattle.call_slim.proofs.ReplyLaws.{slimmed_one}
 use Rattle.sheet_page.specs.Rows.{texts}
 use Rattle.sheet_page.specs.Sheet.{sheet_lines, sheet_texts}
 use Rattle.call_sheet.specs.Reply.{Sheeted}
 use Rattle.call_sheet.specs.Reply as Sheet
-use Rattle.call_sheet.specs.declared.Reply as SheetAnswer
 use Rattle.call_sheet.proofs.ReplyLaws.{sheeted_one}
 use Rattle.law_demands.specs.Demand.{SameAnswers}
+use Rattle.file_refusal.specs.declared.Refusal.{Refusal}
+use Rattle.call_check.specs.declared.judge.State.{State}
+use Rattle.paging.specs.declared.fit.Progress.{Progress}
+use Rattle.std.specs.declared.result.Result.TheVariants.{Ok, Err}
+use Rattle.std.specs.declared.result.Result.{Result}
 
 -- "the new file is accepted too, and with the same label gives the same sheet and the same slim copy, byte for byte"
 pub additions_change_nothing : (f g : List ℕ) → Accepts f → Added f g → SameAnswers f g
@@ -45,16 +45,16 @@ accepted_passes : (f : List ℕ) → Accepts f → IsAccepted f
 unfolding verdict answered
 accepted_passes f a = go (surveyed f) refl a.answer
   where
-    go : (j : Judged) → surveyed f ≡ j → answered j ≡ Accepted a.found → IsAccepted f
-    go (Passed s) e h = record { state = s; passed = e }
-    go (Refused x) e h = let z : ◌≡◌ {A = ℕ} 0 1 = cc in absurd (omega arith)
+    go : (j : Result State Refusal) → surveyed f ≡ j → answered j ≡ Ok a.found → IsAccepted f
+    go (Ok s) e h = record { state = s; passed = e }
+    go (Err x) e h = let z : ◌≡◌ {A = ℕ} 0 1 = cc in absurd (omega arith)
 
 module _ (f g : List ℕ) (accepted : Accepts f) (added : Added f g) where
   abbrev same : SameAnswers f g
   same = additions_change_nothing f g accepted added
 
   -- for the same label, line number and output the whole reply of Sheet is the same, 10 and 11 too
-  pub same_sheet : {label : List ℕ} {n : ℕ} {before a b : List ℕ} {r q : SheetAnswer.Reply} → Sheeted f label n before a r → Sheeted g label n before b q → (r ≡ q) × (a ≡ b)
+  pub same_sheet : {label : List ℕ} {n : ℕ} {before a b : List ℕ} {r q : Result Progress Refusal} → Sheeted f label n before a r → Sheeted g label n before b q → (r ≡ q) × (a ≡ b)
   unfolding Sheet.sheet_reply Sheet.replied
   same_sheet {label} {n} {before} {a} {b} {r} {q} s t =
       let x = accepted_passes f accepted in
@@ -64,7 +64,7 @@ module _ (f g : List ℕ) (accepted : Accepts f) (added : Added f g) where
       sheeted_one s (record { answer_is = t.answer_is ∙ ap Sheet.values reply; output_is = output })
 
   -- and so is that of Slim
-  pub same_slim : {before a b : List ℕ} {r q : SlimAnswer.Reply} → Slimmed f before a r → Slimmed g before b q → (r ≡ q) × (a ≡ b)
+  pub same_slim : {before a b : List ℕ} {r q : Result ℕ Refusal} → Slimmed f before a r → Slimmed g before b q → (r ≡ q) × (a ≡ b)
   unfolding Copy.slim_reply Copy.replied
   same_slim {before} {a} {b} {r} {q} s t =
       let x = accepted_passes f accepted in

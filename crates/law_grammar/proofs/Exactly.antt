@@ -13,31 +13,32 @@ use Rattle.file_walk.proofs.Segments.{closes, walk_laid_out, laid_out_walk}
 use Rattle.words.proofs.Choice.{and_both, or_neither}
 use Rattle.file_order.specs.Setup.{no_setup}
 use Rattle.file_order.specs.Order.{only}
-use Rattle.call_check.specs.declared.check.Answer.TheVariants.{Accepted}
-use Rattle.call_check.specs.declared.judge.Judged.{Judged}
-use Rattle.call_check.specs.declared.judge.Judged.TheVariants.{Passed, Refused}
 use Rattle.call_check.specs.Judge.{first_state, misfit, surveyed}
 use Rattle.call_check.specs.Check.{outline_of, answered, verdict}
 use Rattle.law_grammar.specs.Grammar.{Grammatical, Accepts}
 use Rattle.law_grammar.proofs.Sentence.{takes_ordered, ordered_takes}
 use Rattle.law_grammar.proofs.Takes.{takes, accepts, judge_takes}
+use Rattle.file_refusal.specs.declared.Refusal.{Refusal}
+use Rattle.call_check.specs.declared.judge.State.{State}
+use Rattle.std.specs.declared.result.Result.TheVariants.{Ok, Err}
+use Rattle.std.specs.declared.result.Result.{Result}
 
 -- an acceptance, as a test
 pub accepts_found : (file : List ℕ) → accepts (surveyed file) ≡ true → Accepts file
 unfolding verdict answered accepts
 accepts_found file e = go (surveyed file) refl e
   where
-    go : (j : Judged) → surveyed file ≡ j → accepts j ≡ true → Accepts file
-    go (Passed s) h t = record { found = outline_of s; answer = ap answered h }
-    go (Refused x) h t = absurd (false≢true t)
+    go : (j : Result State Refusal) → surveyed file ≡ j → accepts j ≡ true → Accepts file
+    go (Ok s) h t = record { found = outline_of s; answer = ap answered h }
+    go (Err x) h t = absurd (false≢true t)
 
 pub found_accepts : (file : List ℕ) → Accepts file → accepts (surveyed file) ≡ true
 unfolding verdict answered accepts
 found_accepts file a = go (surveyed file) a.answer
   where
-    go : (j : Judged) → answered j ≡ Accepted a.found → accepts j ≡ true
-    go (Passed s) h = refl
-    go (Refused x) h = let z : ◌≡◌ {A = ℕ} 0 1 = cc in absurd (omega arith)
+    go : (j : Result State Refusal) → answered j ≡ Ok a.found → accepts j ≡ true
+    go (Ok s) h = refl
+    go (Err x) h = let z : ◌≡◌ {A = ℕ} 0 1 = cc in absurd (omega arith)
 
 -- the acceptance of a file, without positions
 pub surveyed_takes : (file : List ℕ)
@@ -45,7 +46,7 @@ pub surveyed_takes : (file : List ℕ)
 unfolding surveyed accepts
 surveyed_takes file = go (misfit file) _ _ refl (judge_takes (walked (words_of file)) first_state)
   where
-    go : (t : Bool) (i j : Judged) {x : Bool} → accepts i ≡ false → accepts j ≡ x → accepts (cond t i j) ≡ (not t && x)
+    go : (t : Bool) (i j : Result State Refusal) {x : Bool} → accepts i ≡ false → accepts j ≡ x → accepts (cond t i j) ≡ (not t && x)
     go true i j f e = f
     go false i j f e = e
 

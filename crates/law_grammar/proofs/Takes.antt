@@ -12,7 +12,6 @@ use Rattle.file_walk.specs.declared.Stop.{Stop}
 use Rattle.file_walk.specs.Walk.{Walk, over, block, end_marker, Part, parts_of}
 use Rattle.file_walk.proofs.Segments.{closes}
 use Rattle.file_rules.specs.declared.Row.{Row}
-use Rattle.file_rules.specs.declared.Tested.{Tested}
 use Rattle.file_rules.specs.Block.{kept, offset_by}
 use Rattle.file_rules.specs.Slim.{slim_by, word_in, sub_word_in}
 use Rattle.words.proofs.Choice.{and_both}
@@ -24,20 +23,22 @@ use Rattle.file_order.specs.Order.{key_of, either, only, is_due, passed_over, du
 use Rattle.file_order.proofs.KnownLaws.{row_listed}
 use Rattle.file_order.proofs.OrderLaws.{only_due, only_passes}
 use Rattle.call_check.specs.declared.judge.State.{State}
-use Rattle.call_check.specs.declared.judge.Judged.{Judged}
-use Rattle.call_check.specs.declared.judge.Judged.TheVariants.{Passed}
 use Rattle.call_check.specs.Judge.{skipped, entered_by, entered, tested_by, judged_by, seen_by, seen_in, closed, judge}
 use Rattle.call_check.proofs.Numbered.{key_id}
 use Rattle.call_check.proofs.Turns.{judge_pass, judge_deny}
 use Rattle.law_grammar.specs.Grammar.{known_after, Listed}
+use Rattle.file_refusal.specs.declared.Refusal.{Refusal}
+use Rattle.std.specs.declared.result.Result.TheVariants.{Ok, Err}
+use Rattle.std.specs.declared.result.Result.{Result}
+use Rattle.std.specs.Prelude.{⊤}
 
 -- the first word of a part
 abbrev pub word_of : Part → ℕ
 word_of p = get_or p.words 0 0
 
-unfoldable pub good : Tested → Bool
-good Tested.Good = true
-good (Tested.Refused x) = false
+unfoldable pub good : Result ⊤ Refusal → Bool
+good (Ok tt) = true
+good (Err x) = false
 
 -- by what is due and what is known: a listed block is the one that is due, and good; another is passed over; the end marker is due at the end
 unfoldable pub takes : Due → Setup → List Part → Bool
@@ -49,9 +50,9 @@ takes d s (p ∷ ps) =
 
 -- ---- the judgement is the walk's end and this fold
 
-unfoldable pub accepts : Judged → Bool
-accepts (Passed s) = true
-accepts (Judged.Refused x) = false
+unfoldable pub accepts : Result State Refusal → Bool
+accepts (Ok s) = true
+accepts (Err x) = false
 
 -- one block; x and y say what follows where it is listed and was taken, and where it was passed over
 judge_block : (st : State) (at : ℕ) (b raw : List ℕ) (w : Walk) (x y : Bool)
@@ -66,10 +67,10 @@ judge_block st at b raw w x y e f =
     r : Row
     r = row_for st.setup (get_or b 0 0)
 
-    go : (t u : Bool) (k : Tested) → r.listed ≡ t → is_due st.due (key_of (get_or b 0 0)) ≡ u → kept r b ≡ k
+    go : (t u : Bool) (k : Result ⊤ Refusal) → r.listed ≡ t → is_due st.due (key_of (get_or b 0 0)) ≡ u → kept r b ≡ k
         → accepts (judge st (block at b raw w)) ≡ (closes w && cond t (u && (good k && x)) y)
-    go true true Tested.Good l i g = rw (judge_pass st at b raw w (entered_by st at b) (simp (l, i, g))) e
-    go true true (Tested.Refused z) l i g = rw (judge_deny st at b raw w {x = refusal z.num (at + z.at)} (simp (l, i, g)), and-false (closes w))
+    go true true (Ok tt) l i g = rw (judge_pass st at b raw w (entered_by st at b) (simp (l, i, g))) e
+    go true true (Err z) l i g = rw (judge_deny st at b raw w {x = refusal z.num (at + z.at)} (simp (l, i, g)), and-false (closes w))
     go true false k l i g = rw (judge_deny st at b raw w {x = refusal 4 (at + 0)} (simp (l, i)), and-false (closes w))
     go false u k l i g = rw (judge_pass st at b raw w (skipped st) (simp l)) f
 
@@ -77,7 +78,7 @@ pub judge_takes : (w : Walk) (st : State) → accepts (judge st w) ≡ (closes w
 unfolding judge closed closes parts_of takes accepts entered_by entered skipped known_after learnt slim_of slim_by id_in word_in sub_word_in
 judge_takes (over (Stop.End at left)) st = go (is_due st.due end_marker) (eqb left 0)
   where
-    go : (t u : Bool) → accepts (cond t (cond u (Passed st) (Judged.Refused (refusal 9 (at + 1)))) (Judged.Refused (refusal 4 at))) ≡ (u && t)
+    go : (t u : Bool) → accepts (cond t (cond u (Ok st) (Err (refusal 9 (at + 1)))) (Err (refusal 4 at))) ≡ (u && t)
     go true true = refl
     go true false = refl
     go false true = refl
@@ -106,10 +107,10 @@ takes_either a b p q s (x ∷ xs) = go (kind_of (low (word_of x))).listed (takes
 pub key_listed : (w : ℕ) {k : ℕ} → key_of w ≡ k → (kind_of (low w)).listed ≡ (kind_of (low k)).listed
 key_listed w {k} e = ap (λ (i : ℕ). (kind_of i).listed) {x = low w} {y = low k} (sym (key_id w) ∙ ap low e)
 
-pub good_is : (t : Tested) → good t ≡ true → t ≡ Tested.Good
+pub good_is : (t : Result ⊤ Refusal) → good t ≡ true → t ≡ Ok tt
 unfolding good
-good_is Tested.Good e = refl
-good_is (Tested.Refused x) e = absurd (false≢true e)
+good_is (Ok tt) e = refl
+good_is (Err x) e = absurd (false≢true e)
 
 module _ (k : ℕ) (s : Setup) (p : Part) (ps : List Part) where
   -- a listed block that is taken

@@ -1,10 +1,9 @@
 -- The grammar of accepted files: document 01's sentence on the order of listed blocks, each good by its row. It says what
 -- an accepted file is, and not how one is found out.
-use Rattle.std.specs.Prelude.{false, cond, List, [], ◌∷◌, ◌⊎◌, ◌≡◌, ℕ, ◌%◌, ◌≤◌, eqb, length, get_or}
+use Rattle.std.specs.Prelude.{false, cond, List, [], ◌∷◌, ◌⊎◌, ◌≡◌, ℕ, ◌%◌, ◌≤◌, eqb, length, get_or, Ok}
 use Rattle.words.specs.Words.{low, words_of}
 use Rattle.file_models.specs.Models.{columns}
 use Rattle.file_walk.specs.Walk.{Part, laid_out, Wholes}
-use Rattle.file_rules.specs.declared.Tested.TheVariants.{Good}
 use Rattle.file_rules.specs.Block.{kept}
 use Rattle.file_order.specs.declared.setup.Setup.{Setup}
 use Rattle.file_tables.specs.Table.{kind_of}
@@ -12,7 +11,6 @@ use Rattle.file_order.specs.Setup.{row_for, slim_of, learnt, no_setup}
 use Rattle.file_order.specs.Order.{key_of}
 use Rattle.call_check.specs.Check.{verdict}
 use Rattle.call_check.specs.declared.check.Outline.{Outline}
-use Rattle.call_check.specs.declared.check.Answer.TheVariants.{Accepted}
 
 -- what may stand somewhere: some blocks, by what is known before them
 abbrev pub Blocks : Type 1
@@ -25,7 +23,7 @@ pub record Unlisted (p : Part) : Type 0 where
 -- a listed block with this key, good by its row
 pub record Listed (key : ℕ) (s : Setup) (p : Part) : Type 0 where
   pub key_is : key_of (get_or p.words 0 0) ≡ key
-  pub good : kept (row_for s (get_or p.words 0 0)) p.words ≡ Good
+  pub good : kept (row_for s (get_or p.words 0 0)) p.words ≡ Ok tt
 
 -- what is known after a listed block, by its slim form
 unfoldable pub known_after : Setup → Part → Setup
@@ -82,4 +80,4 @@ pub record Grammatical (file : List ℕ) : Type 0 where
 -- Check answers acceptance
 pub record Accepts (file : List ℕ) : Type 0 where
   pub found : Outline
-  pub answer : verdict file ≡ Accepted found
+  pub answer : verdict file ≡ Ok found

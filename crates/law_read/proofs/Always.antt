@@ -10,11 +10,9 @@ use Rattle.words.specs.Words.{low, words_of}
 use Rattle.words.proofs.Choice.{cond_second}
 use Rattle.file_walk.specs.declared.Cursor.{Cursor}
 use Rattle.file_walk.specs.declared.Stop.{Stop}
-use Rattle.file_walk.specs.declared.Step.{Step}
-use Rattle.file_walk.specs.declared.Step.TheVariants.{Block, Over}
+use Rattle.file_walk.specs.declared.Block.{Block}
 use Rattle.file_walk.specs.Walk.{end_marker, raw_of, step_at, Part, parts_of}
 use Rattle.file_walk.proofs.Steps.{walk_from, walk_start, walk_over}
-use Rattle.file_rules.specs.declared.Tested.TheVariants.{Good}
 use Rattle.file_rules.specs.Block.{kept}
 use Rattle.file_rules.specs.Slim.{Slim}
 use Rattle.file_order.specs.declared.setup.Setup.{Setup}
@@ -22,18 +20,18 @@ use Rattle.file_tables.specs.Table.{kind_of}
 use Rattle.file_order.specs.Setup.{row_for, slim_of}
 use Rattle.file_order.specs.Order.{key_of, is_due}
 use Rattle.call_check.specs.declared.judge.State.{State}
-use Rattle.call_check.specs.declared.judge.Judged.TheVariants.{Passed}
 use Rattle.call_check.specs.Judge.{first_state, skipped, entered_by, closed, judge, misfit, surveyed}
 use Rattle.call_check.specs.Slims.{slim_part, known_from, slims, slims_in}
 use Rattle.file_read.specs.Read.{part_at}
 use Rattle.call_check.proofs.Seen.{no_denied, Through, unlisted, listed, closed_passed, closed_due}
 use Rattle.call_check.proofs.Onward.{no_fuel, passes, known_through, slims_over, slims_block}
 use Rattle.call_check.proofs.FoundWords.{accepted_few}
+use Rattle.std.specs.Prelude.{Result, Ok, Err}
 
 -- a listed block that comes in a state: it is due, and good by its row
 pub record Comes (s : State) (b : List ℕ) : Type 0 where
   pub due : is_due s.due (key_of (get_or b 0 0)) ≡ true
-  pub good : kept (row_for s.setup (get_or b 0 0)) b ≡ Good
+  pub good : kept (row_for s.setup (get_or b 0 0)) b ≡ Ok tt
   pub few : length b ≤ 32768
 
 part_none : (k : Setup) (p : Part) → (kind_of (low (get_or p.words 0 0))).listed ≡ false → slim_part k p ≡ []
@@ -53,13 +51,13 @@ module _ (P : State → List Slim → Type 0) (pass : (s : State) (xs : List Sli
 
     -- the blocks from a cursor on, up to the end of an accepted file
     abbrev Later : ℕ → Type 0
-    Later m = (c : Cursor) (s s' : State) (xs : List Slim) → P s xs → judge s (walk_from m ws c) ≡ Passed s' → Ended s' (xs ++ slims s.setup (parts_of (walk_from m ws c)))
+    Later m = (c : Cursor) (s s' : State) (xs : List Slim) → P s xs → judge s (walk_from m ws c) ≡ Ok s' → Ended s' (xs ++ slims s.setup (parts_of (walk_from m ws c)))
 
-    always_over : (m : ℕ) (c : Cursor) (s s' : State) (xs : List Slim) (stop : Stop) → step_at ws c ≡ Over stop → P s xs
-        → judge s (walk_from (suc m) ws c) ≡ Passed s' → Ended s' (xs ++ slims s.setup (parts_of (walk_from (suc m) ws c)))
+    always_over : (m : ℕ) (c : Cursor) (s s' : State) (xs : List Slim) (stop : Stop) → step_at ws c ≡ Err stop → P s xs
+        → judge s (walk_from (suc m) ws c) ≡ Ok s' → Ended s' (xs ++ slims s.setup (parts_of (walk_from (suc m) ws c)))
     unfolding judge
     always_over m c s s' xs stop q h e =
-        let last : closed s stop ≡ Passed s' = sym (ap (judge s) (walk_over m ws c stop q)) ∙ e in
+        let last : closed s stop ≡ Ok s' = sym (ap (judge s) (walk_over m ws c stop q)) ∙ e in
         rw (slims_over m ws c s.setup stop q, append-nil)
         (subst (λ (st : State). Ended st xs) (closed_passed s s' stop last) (h, closed_due s s' stop last))
 
@@ -85,14 +83,14 @@ module _ (P : State → List Slim → Type 0) (pass : (s : State) (xs : List Sli
     always_judged zero c s s' xs h e = absurd (no_fuel ws s s' c e)
     always_judged (suc m) c s s' xs h e = go (step_at ws c) refl (always_judged m)
       where
-        go : (y : Step) → step_at ws c ≡ y → Later m → Ended s' (xs ++ slims s.setup (parts_of (walk_from (suc m) ws c)))
-        go (Over stop) q later = always_over m c s s' xs stop q h e
-        go (Block id nn start len next) q later =
-            let p = passes ws m c s s' id nn start len next q e in
-            let more = always_next s p.state start len xs (slims p.state.setup (parts_of (walk_from m ws next))) p.through h in
-            rw (slims_block m ws c s.setup id nn start len next q, ← known_there s p.state start len p.through, more.1.1) (later next p.state s' more.0 more.1.0 p.goes)
+        go : (y : Result Block Stop) → step_at ws c ≡ y → Later m → Ended s' (xs ++ slims s.setup (parts_of (walk_from (suc m) ws c)))
+        go (Err stop) q later = always_over m c s s' xs stop q h e
+        go (Ok b) q later =
+            let p = passes ws m c s s' b q e in
+            let more = always_next s p.state b.start b.length xs (slims p.state.setup (parts_of (walk_from m ws b.next))) p.through h in
+            rw (slims_block m ws c s.setup b q, ← known_there s p.state b.start b.length p.through, more.1.1) (later b.next p.state s' more.0 more.1.0 p.goes)
 
-  pub always : P first_state [] → (file : List ℕ) (s : State) → surveyed file ≡ Passed s → P s (slims_in file) × (is_due s.due end_marker ≡ true)
+  pub always : P first_state [] → (file : List ℕ) (s : State) → surveyed file ≡ Ok s → P s (slims_in file) × (is_due s.due end_marker ≡ true)
   unfolding surveyed slims_in
   always h file s e =
       let ws = words_of file in

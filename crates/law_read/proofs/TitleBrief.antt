@@ -22,7 +22,6 @@ use Rattle.file_tables.specs.Table.{row_of, kind_of}
 use Rattle.file_order.specs.Setup.{slim_of}
 use Rattle.file_order.proofs.KnownLaws.{row_exact, row_text, row_at}
 use Rattle.call_check.specs.declared.judge.State.{State}
-use Rattle.call_check.specs.declared.judge.Judged.TheVariants.{Passed}
 use Rattle.call_check.specs.Judge.{surveyed}
 use Rattle.call_check.specs.Starts.{place_of}
 use Rattle.call_check.specs.Slims.{slims_in, slim_after, slim_at}
@@ -32,6 +31,7 @@ use Rattle.call_check.proofs.Found.{first, slim_there, There, Found, there, nowh
 use Rattle.file_read.proofs.Places.{block_at_lem}
 use Rattle.call_title.specs.Title.{title_text}
 use Rattle.call_title.proofs.Texts.{text_kept}
+use Rattle.std.specs.declared.result.Result.TheVariants.{Ok}
 
 -- a text that has its null has a byte less than its words at least
 text_less : (ws : List ℕ) → nulled ws ≡ true → length (before_null (bytes_of ws)) < 2 * length ws
@@ -80,6 +80,6 @@ module _ {ws : List ℕ} (small : Below 65536 ws) {last : Setup} {start : ℕ} {
       omega (arith, text, text_less (drop 1 b) block.1, length-drop 1 b)
   found_brief (nowhere a n) = rw n (lit≤ tt)
 
-pub title_brief : (file : List ℕ) (s : State) → surveyed file ≡ Passed s → Below 256 file → length (title_text (slims_in file)) ≤ 507
+pub title_brief : (file : List ℕ) (s : State) → surveyed file ≡ Ok s → Below 256 file → length (title_text (slims_in file)) ≤ 507
 unfolding title_text slim_at slim_after place_of
 title_brief file s e small = found_brief (words_below file small) (found file s e 0x03 (lit≤ tt))

@@ -13,10 +13,13 @@ use Rattle.file_refusal.specs.{declared.Refusal.Refusal, Refusal.is_of_file}
 use Rattle.file_rules.specs.declared.Rule.{Rule}
 use Rattle.file_rules.specs.declared.Subs.{Subs}
 use Rattle.file_rules.specs.declared.Row.{Row}
-use Rattle.file_rules.specs.declared.Tested.{Tested}
 use Rattle.file_rules.specs.Block.{then, offset_by, allows, in_force, least_of, filled, obeyed, ruled, rules_in, recorded, records, sized, readable, whole_records, buffered, kept}
 use Rattle.file_rules.specs.Sound.{among, looks, asks, inside, front_words, Sound}
 use Rattle.file_rules.proofs.BlockLaws.{recorded_says, sized_least}
+use Rattle.file_refusal.specs.declared.Refusal.{Refusal}
+use Rattle.std.specs.declared.result.Result.TheVariants.{Ok, Err}
+use Rattle.std.specs.declared.result.Result.{Result}
+use Rattle.std.specs.Prelude.{⊤}
 
 -- a refusal is one of a file, and at word n at most
 pub record Near (n : ℕ) (x : Refusal) : Type 0 where
@@ -27,20 +30,20 @@ pub further : {m n : ℕ} {x : Refusal} → m ≤ n → Near m x → Near n x
 further h p = record { at = omega (arith, p.at); num = p.num }
 
 -- so is what a test says, if it is a refusal
-pub data Upto (n : ℕ) : Tested → Type 0 where
-  good : Upto n Tested.Good
-  bad : {x : Refusal} → x.at ≤ n → is_of_file x.num ≡ true → Upto n (Tested.Refused x)
+pub data Upto (n : ℕ) : Result ⊤ Refusal → Type 0 where
+  good : Upto n (Ok tt)
+  bad : {x : Refusal} → x.at ≤ n → is_of_file x.num ≡ true → Upto n (Err x)
 
-pub cond_upto : {n : ℕ} (t : Bool) {a b : Tested} → (t ≡ true → Upto n a) → (t ≡ false → Upto n b) → Upto n (cond t a b)
+pub cond_upto : {n : ℕ} (t : Bool) {a b : Result ⊤ Refusal} → (t ≡ true → Upto n a) → (t ≡ false → Upto n b) → Upto n (cond t a b)
 cond_upto true p q = p refl
 cond_upto false p q = q refl
 
-then_upto : {n : ℕ} (a b : Tested) → Upto n a → (a ≡ Tested.Good → Upto n b) → Upto n (then a b)
+then_upto : {n : ℕ} (a b : Result ⊤ Refusal) → Upto n a → (a ≡ Ok tt → Upto n b) → Upto n (then a b)
 unfolding then
-then_upto Tested.Good b p q = q refl
-then_upto (Tested.Refused x) b p q = p
+then_upto (Ok tt) b p q = q refl
+then_upto (Err x) b p q = p
 
-pub offset_upto : {m n : ℕ} {t : Tested} (o : ℕ) → o + m ≤ n → Upto m t → Upto n (offset_by o t)
+pub offset_upto : {m n : ℕ} {t : Result ⊤ Refusal} (o : ℕ) → o + m ≤ n → Upto m t → Upto n (offset_by o t)
 unfolding offset_by
 offset_upto o h good = good
 offset_upto {n = n} o h (bad {x} l m) = let there : o + x.at ≤ n = omega arith in bad there m

@@ -7,11 +7,12 @@ ghost use Rattle.call_check.specs.Starts.{starts_in};
 ghost use Rattle.call_title.specs.Title.{title_at};
 ghost use Rattle.meter.specs.Exports.{check_reply, title_reply, SheetGiven, SlimGiven};
 
-use call_check::check::{Answer, check};
+use call_check::check::check;
 use call_check::starts::Starts;
-use call_sheet::{Reply as Sheeted, sheet};
-use call_slim::{Reply as Slimmed, slim};
-use call_title::{TitleAt, title_at};
+use call_sheet::sheet;
+use call_slim::slim;
+use call_title::{Span, title_at};
+use std::array;
 
 // Check's answer. `refusal` is 0 for an accepted file; `function` is 1 to 4, and 0 in a refused file; `starts` are those of 01, 02, 03,
 // 04, 05, 07, 0E or 10, 09 and 0F, 65,535 for an absent block and in a refused file.
@@ -55,30 +56,22 @@ pub struct SlimReply {
 fn starts_of(starts: Starts) -> [u16; 9]
     ensures { result ≡ starts_in starts }
 {
-    let mut list = [0u16; 9];
-    let mut place = 0;
-    while place < 9 {
-        list[place] = starts.start(place);
-        place += 1;
-    }
-    list
+    array::from_fn(|place| starts.start(place))
 }
 
 #[unsafe(no_mangle)]
+#[tactic(auto, using(crate::proofs::FieldLaws::accepted_function, crate::proofs::FieldLaws::checked_near, call_check::proofs::Answers::checked_verdict), unfolding(crate::specs::Exports::check_reply))]
 pub extern "C" fn meter_check(file: &[u8]) -> CheckReply
     ensures { result ≡ check_reply (verdict file.now) }
 {
     match check(file) {
-        Answer::Accepted(r) => {
-            let starts = r.starts;
-            CheckReply {
-                refusal: 0,
-                function: r.function as u8,
-                starts: starts_of(starts),
-                at: 0,
-            }
-        }
-        Answer::Refused(r) => CheckReply {
+        Ok(r) => CheckReply {
+            refusal: 0,
+            function: r.function as u8,
+            starts: starts_of(r.starts),
+            at: 0,
+        },
+        Err(r) => CheckReply {
             refusal: r.num,
             function: 0,
             starts: [65535; 9],
@@ -88,16 +81,17 @@ pub extern "C" fn meter_check(file: &[u8]) -> CheckReply
 }
 
 #[unsafe(no_mangle)]
+#[tactic(auto, unfolding(crate::specs::Exports::title_reply))]
 pub extern "C" fn meter_title(file: &[u8], label: &[u8]) -> TitleReply
     ensures { result ≡ title_reply (length label.now) (title_at file.now) }
 {
     match title_at(file) {
-        TitleAt::Text { at, len } => TitleReply {
+        Some(Span { at, len }) => TitleReply {
             from_file: true,
             at,
             len,
         },
-        TitleAt::Label => TitleReply {
+        None => TitleReply {
             from_file: false,
             at: 0,
             len: label.len(),
@@ -115,14 +109,14 @@ pub extern "C" fn meter_sheet<'a>(
     ensures { SheetGiven file.now label.now n out.old out.new result }
 {
     match sheet(file, label, n, out) {
-        Sheeted::Written(p) => SheetReply {
+        Ok(p) => SheetReply {
             refusal: 0,
             finished: p.finished,
             at: 0,
             lines: p.lines,
             bytes: p.bytes,
         },
-        Sheeted::Refused(r) => SheetReply {
+        Err(r) => SheetReply {
             refusal: r.num,
             finished: false,
             at: r.at as u32,
@@ -137,12 +131,12 @@ pub extern "C" fn meter_slim(file: &[u8], out: &mut [u8]) -> SlimReply
     ensures { SlimGiven file.now out.old out.new result }
 {
     match slim(file, out) {
-        Slimmed::Written(bytes) => SlimReply {
+        Ok(bytes) => SlimReply {
             refusal: 0,
             at: 0,
             bytes,
         },
-        Slimmed::Refused(refusal) => SlimReply {
+        Err(refusal) => SlimReply {
             refusal: refusal.num,
             at: refusal.at as u32,
             bytes: 0,

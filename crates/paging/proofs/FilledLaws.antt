@@ -12,7 +12,7 @@ use lib.Dec.{leb}
 use lib.ListN.{length, take, length-append}
 use lib.Seq.{take_all}
 use Rattle.paging.specs.declared.fit.Progress.{Progress}
-use Rattle.paging.specs.declared.fit.Tried.TheVariants.{Put, Full}
+use Rattle.std.specs.Prelude.{Some, None}
 use Rattle.paging.specs.Fit.{fit, joined, TriedTo, Filled}
 use Rattle.text.specs.Text.{Wrote}
 use Rattle.paging.proofs.FitLaws.{joined_append}
@@ -98,7 +98,7 @@ module _ {xs : List (List ℕ)} {d e : List ℕ} {p : Progress} (w : Filled xs d
         omega (arith, filled_all f, fit_after (length d) xs ys (sym w.most ∙ filled_all f), ap (λ (k : ℕ). fit k ys) left)
 
     -- the next line fits
-    pub filled_put : (l g : List ℕ) (m : ℕ) → length e ≡ length d → TriedTo l (mid_of p.bytes (length e - p.bytes) e) g (Put m)
+    pub filled_put : (l g : List ℕ) (m : ℕ) → length e ≡ length d → TriedTo l (mid_of p.bytes (length e - p.bytes) e) g (Some m)
         → Filled (xs ++ (l ∷ [])) d (put_mid p.bytes (length e - p.bytes) e g) (record { lines = p.lines + 1; bytes = p.bytes + m; finished = true })
     unfolding fit
     filled_put l g m same t =
@@ -113,7 +113,7 @@ module _ {xs : List (List ℕ)} {d e : List ℕ} {p : Progress} (w : Filled xs d
         }
 
     -- the next line does not fit
-    pub filled_full : (l g : List ℕ) → length e ≡ length d → TriedTo l (mid_of p.bytes (length e - p.bytes) e) g Full → (ys : List (List ℕ))
+    pub filled_full : (l g : List ℕ) → length e ≡ length d → TriedTo l (mid_of p.bytes (length e - p.bytes) e) g None → (ys : List (List ℕ))
         → Filled (xs ++ (l ∷ ys)) d (put_mid p.bytes (length e - p.bytes) e g) (record { lines = p.lines; bytes = p.bytes; finished = false })
     unfolding fit
     filled_full l g same t ys =

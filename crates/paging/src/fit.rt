@@ -1,30 +1,43 @@
 // Whole lines, as many as fit.
-ghost use Rattle.paging.specs.Fit.{TriedTo};
+ghost use Rattle.std.specs.Prelude.{List, ℕ, ◌<◌};
+ghost use Rattle.paging.specs.Fit.{TriedTo, Puts};
 
 use text::put::put_bytes;
 
-// How far a call came.
-#[derive(Clone, Copy)]
+// How far a call came. Lines and bytes are counted whether it is finished or not, so the flag makes no Option of them.
+#[derive(Clone, Copy, PartialEq, Eq, Debug)]
 pub struct Progress {
     pub lines: u32,
     pub bytes: usize,
     pub finished: bool,
 }
 
-// What became of one line: its length, or no room for it.
-#[derive(Clone, Copy)]
-pub enum Tried {
-    Put(usize),
-    Full,
-}
-
-// A line that is made already, where it fits.
-pub fn try_line(out: &mut [u8], line: &[u8]) -> Tried
+// A line that is made already, where it fits: its length, or no room for it.
+pub fn try_line(out: &mut [u8], line: &[u8]) -> Option<usize>
     ensures { TriedTo line.now out.old out.new result }
 {
     if line.len() <= out.len() {
-        Tried::Put(put_bytes(out, line))
+        Some(put_bytes(out, line))
     } else {
-        Tried::Full
+        None
     }
+}
+
+// A line of at most N bytes, where it fits. Where any such line fits it is written at its place; near the end of the output,
+// where its length decides, it is made in a scratch array and copied.
+pub(crate) fn fit<const N: usize, W: FnOnce(&mut [u8]) -> usize>(
+    out: &mut [u8],
+    put: W,
+) -> Option<usize>
+    requires array { N < 9223372036854775808 }
+    requires puts { (line : List ℕ) × Puts W.FnOnce put N line }
+    ensures { (line : List ℕ) → Puts W.FnOnce put N line → TriedTo line out.old out.new result }
+{
+    if N <= out.len() {
+        return Some(put(out));
+    }
+    let mut scratch = [0u8; N];
+    let whole = &mut scratch[..];
+    let n = put(whole);
+    try_line(out, &whole[0..n])
 }

@@ -3,7 +3,7 @@
 --     accepted function=1 01=0 02=12 03=18 04=22 05=45 07=65535 spectrum=65535 09=65535 0F=65
 -- "Ids are hexadecimal", numbers "are unsigned decimal, no leading zeros", "65,535 stands for an absent block" (document 01).
 use mathlib.Core.List.{List, [], ◌∷◌, ◌++◌, flat_map}
-use Rattle.std.specs.Prelude.{ℕ, get_or}
+use Rattle.std.specs.Prelude.{ℕ, get_or, Result, Ok, Err}
 use Rattle.words.specs.Numbers.{numbers_from}
 use Rattle.text.specs.Ascii.{ascii}
 use Rattle.text.specs.Decimal.{decimal}
@@ -12,8 +12,6 @@ use Rattle.file_refusal.specs.declared.Refusal.{Refusal}
 use Rattle.call_check.specs.declared.starts.Starts.{Starts}
 use Rattle.call_check.specs.Starts.{absent, place_count, starts_in}
 use Rattle.call_check.specs.declared.check.Outline.{Outline}
-use Rattle.call_check.specs.declared.check.Answer.{Answer}
-use Rattle.call_check.specs.declared.check.Answer.TheVariants.{Accepted, Refused}
 
 -- "`refused N at P` and 0A" (document 01, Checked files)
 unfoldable pub refusal_line : Refusal → List ℕ
@@ -45,6 +43,6 @@ start_entry s place = entry (named keys place) (get_or (starts_in s) place absen
 unfoldable pub acceptance : Outline → List ℕ
 acceptance r = ascii "accepted" ++ entry (ascii " function=") r.function ++ flat_map (start_entry r.starts) (numbers_from 0 place_count) ++ ascii "\n"
 
-unfoldable pub reply : Answer → List ℕ
-reply (Accepted r) = acceptance r
-reply (Refused r) = refusal_line r
+unfoldable pub reply : Result Outline Refusal → List ℕ
+reply (Ok r) = acceptance r
+reply (Err r) = refusal_line r

@@ -11,7 +11,7 @@ ghost use Rattle.call_check.specs.Starts.{place_count};
 ghost use Rattle.call_check.specs.Check.{verdict};
 ghost use Rattle.print_check.specs.Replies.{refusal_line, entry, keys, start_entry, acceptance, reply};
 
-use call_check::check::{Answer, Outline, check};
+use call_check::check::{Outline, check};
 use call_check::starts::Starts;
 use file_refusal::Refusal;
 use text::decimal::{put_decimal, put_short};
@@ -37,6 +37,7 @@ pub fn put_refusal(out: &mut [u8], refusal: Refusal) -> usize
 }
 
 // The key of a place of the record.
+#[tactic(auto, unfolding(text::specs::Text::named, crate::specs::Replies::keys))]
 fn put_key(out: &mut [u8], place: usize) -> usize
     requires { 10 ≤ length out.old }
     ensures { Wrote (named keys place) 10 out.old out.new result }
@@ -70,11 +71,8 @@ fn put_starts(out: &mut [u8], starts: Starts) -> usize
     ensures { Wrote (flat_map (start_entry starts) (numbers_from 0 place_count)) 171 out.old out.new result }
 {
     let mut at = 0;
-    let mut place = 0;
-    while place < 9 {
-        let n = put_entry(&mut out[at..], place, starts.start(place));
-        at += n;
-        place += 1;
+    for place in 0..9 {
+        at += put_entry(&mut out[at..], place, starts.start(place));
     }
     at
 }
@@ -85,23 +83,24 @@ fn put_acceptance(out: &mut [u8], r: Outline) -> usize
 {
     let a = put_bytes(out, b"accepted function=");
     let b = a + put_short(&mut out[a..], r.function as u64);
-    let starts = r.starts;
-    let c = b + put_starts(&mut out[b..], starts);
+    let c = b + put_starts(&mut out[b..], r.starts);
     c + put_byte(&mut out[c..], b'\n')
 }
 
 // 199 bytes hold an acceptance, and a refusal takes fewer.
-pub fn put_answer(out: &mut [u8], answer: Answer) -> usize
+#[tactic(auto, using(text::proofs::Writing::at_most), unfolding(crate::specs::Replies::reply))]
+pub fn put_answer(out: &mut [u8], answer: Result<Outline, Refusal>) -> usize
     requires { 199 ≤ length out.old }
     ensures { Wrote (reply answer) 199 out.old out.new result }
 {
     match answer {
-        Answer::Accepted(r) => put_acceptance(out, r),
-        Answer::Refused(refusal) => put_refusal(out, refusal),
+        Ok(r) => put_acceptance(out, r),
+        Err(refusal) => put_refusal(out, refusal),
     }
 }
 
 // The line of Check's answer to a file.
+#[tactic(auto, using(call_check::proofs::Answers::checked_verdict))]
 pub fn put_verdict(out: &mut [u8], file: &[u8]) -> usize
     requires { 199 ≤ length out.old }
     ensures { Wrote (reply (verdict file.now)) 199 out.old out.new result }

@@ -21,6 +21,8 @@ use units::frequency::{Centihertz, put_centihertz};
 use units::level::{Tenths, put_tenths};
 use words::{Three, count, word};
 
+// Fields after a comma: no plainer as one function over a closure, since each is two lines that the check proves alone, and a call with a closure is no shorter.
+
 // Tenths of a decibel after a comma.
 pub fn put_decibels(out: &mut [u8], t: Tenths) -> usize
     requires { 13 ≤ length out.old }
@@ -133,11 +135,8 @@ fn put_column_names(out: &mut [u8], letter: u8, count: u16) -> usize
     ensures { Wrote (further (map (lettered (letter ∷ [])) (numbers_from 1 count))) (11 * count) out.old out.new result }
 {
     let mut at = 0;
-    let mut i = 0u16;
-    while i < count {
-        let n = put_column_name(&mut out[at..], letter, i + 1);
-        at += n;
-        i += 1;
+    for i in 0..count {
+        at += put_column_name(&mut out[at..], letter, i + 1);
     }
     at
 }
@@ -158,13 +157,9 @@ pub fn put_levels(out: &mut [u8], words: &[u8]) -> usize
     requires in_bounds { 663 ≤ length out.old }
     ensures { Wrote (further (map level_field (words_of words.now))) 663 out.old out.new result }
 {
-    let all = count(words);
     let mut at = 0;
-    let mut i = 0;
-    while i < all {
-        let n = put_level(&mut out[at..], word(words, i));
-        at += n;
-        i += 1;
+    for i in 0..count(words) {
+        at += put_level(&mut out[at..], word(words, i));
     }
     at
 }

@@ -33,17 +33,7 @@ pub fn put_number(out: &mut [u8], key: &[u8], v: u16) -> usize
 fn needs_quotes(text: &[u8]) -> bool
     ensures { result ≡ needs_quotes (map shown text.now) }
 {
-    let mut i = 0;
-    while i < text.len() {
-        if text[i] == b',' {
-            return true;
-        }
-        if text[i] == b'"' {
-            return true;
-        }
-        i += 1;
-    }
-    false
+    text.contains(&b',') || text.contains(&b'"')
 }
 
 // A byte between quotes: a quote is doubled.
@@ -62,11 +52,8 @@ fn put_doubled(out: &mut [u8], text: &[u8]) -> usize
     ensures { Wrote (doubled (map shown text.now)) (2 * length text.now) out.old out.new result }
 {
     let mut at = 0;
-    let mut i = 0;
-    while i < text.len() {
-        let n = put_doubled_byte(&mut out[at..], show(text[i]));
-        at += n;
-        i += 1;
+    for b in text {
+        at += put_doubled_byte(&mut out[at..], show(*b));
     }
     at
 }

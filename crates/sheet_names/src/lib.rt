@@ -9,6 +9,7 @@ ghost use Rattle.sheet_names.specs.Names.{profile_filters, buffer_codes, spectru
 use text::decimal::put_short;
 use text::put::{put_byte, put_bytes};
 
+// Three tables of one shape, which are data: no plainer as one function, since each call would bring its table as a match of its own.
 #[tactic(auto, unfolding(text::specs::Text::named, crate::specs::Names::profile_filters))]
 fn put_profile_filter(out: &mut [u8], code: u16) -> usize
     requires { 3 ≤ length out.old }

@@ -9,7 +9,6 @@ use lib.ListN.{length, length-append, length-map}
 use Rattle.text.specs.Ascii.{ascii}
 use Rattle.file_rules.specs.Slim.{Slim, word_in}
 use Rattle.call_check.specs.declared.judge.State.{State}
-use Rattle.call_check.specs.declared.judge.Judged.TheVariants.{Passed}
 use Rattle.call_check.specs.Judge.{surveyed}
 use Rattle.call_check.specs.Slims.{slims_in, slim_at}
 use Rattle.law_read.proofs.HistogramLaws.{classes_few}
@@ -23,6 +22,7 @@ use Rattle.sheet_page.specs.Rows.{time_rows, band_rows, total_rows, level_rows, 
 use Rattle.sheet_page.specs.Sheet.{where_there, model_in, function_in, head_lines, time_in, result_lines, spectrum_lines, histogram_in, statistics_lines, width_in, buffer_lines, sheet_lines, sheet_texts}
 use Rattle.sheet_page.proofs.RowLaws.{records_few}
 use Rattle.sheet_page.proofs.Counts.{nominal_few, bands_few, totals_few}
+use Rattle.std.specs.declared.result.Result.TheVariants.{Ok}
 
 -- a section that has at most n lines where its block is
 section_few : (x : Slim) (ls : List SheetLine) {n : ℕ} → length ls ≤ n → length (where_there x ls) ≤ n
@@ -47,7 +47,7 @@ results_few xs =
     section_few _ _
     (simp (length-append, length-map) (omega (arith, times_few (model_in xs) (time_in (slim_at 0x07 xs) 0) (time_in (slim_at 0x07 xs) 1) (time_in (slim_at 0x07 xs) 2), shown_few (model_in xs) (function_in xs))))
 
-module _ (file : List ℕ) (s : State) (e : surveyed file ≡ Passed s) where
+module _ (file : List ℕ) (s : State) (e : surveyed file ≡ Ok s) where
   spectrum_few : length (spectrum_lines (slims_in file)) ≤ 49
   unfolding spectrum_lines level_rows band_rows total_rows word_in
   spectrum_few =
@@ -71,7 +71,7 @@ module _ (file : List ℕ) (s : State) (e : surveyed file ≡ Passed s) where
       (simp (length-map, numbers_length)
       (omega (arith, records_few (width_in (slims_in file)) (length (slim_at 0x0F (slims_in file)).contents), contents_few file s e)))
 
-pub sheet_few : (file label : List ℕ) (s : State) → surveyed file ≡ Passed s → length (sheet_texts file label) ≤ 200000
+pub sheet_few : (file label : List ℕ) (s : State) → surveyed file ≡ Ok s → length (sheet_texts file label) ≤ 200000
 unfolding sheet_texts texts sheet_lines head_lines
 sheet_few file label s e =
     simp (length-map, length-append)

@@ -12,7 +12,6 @@ use Rattle.file_read.specs.Read.{record_at, record_word, block_at, raw_at}
 use Rattle.file_rules.specs.Slim.{Slim, word_in, sub_word_in}
 use Rattle.file_tables.specs.Table.{kind_of}
 use Rattle.call_check.specs.declared.judge.State.{State}
-use Rattle.call_check.specs.declared.judge.Judged.TheVariants.{Passed}
 use Rattle.call_check.specs.Judge.{surveyed}
 use Rattle.call_check.specs.Starts.{place_count, place_of}
 use Rattle.call_check.specs.Slims.{slims_in, slim_after, slim_at}
@@ -23,6 +22,7 @@ use Rattle.call_check.proofs.FoundWords.{accepted_few}
 use Rattle.law_read.proofs.HistogramLaws.{histogram_part}
 use Rattle.law_read.proofs.ReadLaws.{is_in, plain_own, records_own, read_word, read_record, read_contents}
 use Rattle.law_read.proofs.SpectrumLaws.{spectrum_word}
+use Rattle.std.specs.declared.result.Result.TheVariants.{Ok}
 
 take_again : (n : ℕ) (l : List ℕ) → take (length (take n l)) l ≡ take n l
 take_again zero l = refl
@@ -44,7 +44,7 @@ unfolding record_at
 record_below zero ws s = s
 record_below (suc p) ws s = record_below p (drop (high (get_or ws 0 0)) ws) (below_drop (high (get_or ws 0 0)) ws s)
 
-module _ (file : List ℕ) (s : State) (e : surveyed file ≡ Passed s) (small : Below 256 file) where
+module _ (file : List ℕ) (s : State) (e : surveyed file ≡ Ok s) (small : Below 256 file) where
   -- the block at a place: a part of the file, or no words
   block_small : (id : ℕ) → place_of id < place_count → Below 65536 (block_at (words_of file) (start_of id s.starts))
   block_small id i = go (found file s e id i)

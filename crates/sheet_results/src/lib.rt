@@ -8,7 +8,7 @@ ghost use Rattle.sheet_results.specs.Results.{name_of, unit_of, results945, resu
 
 use text::put::put_bytes;
 
-#[derive(Clone, Copy)]
+#[derive(Clone, Copy, PartialEq, Eq)]
 pub enum ResultName {
     Peak,
     Max,
@@ -26,7 +26,7 @@ pub enum ResultName {
     Tlav,
 }
 
-#[derive(Clone, Copy)]
+#[derive(Clone, Copy, PartialEq, Eq)]
 pub enum UnitName {
     Decibel,
     Percent,
@@ -34,14 +34,14 @@ pub enum UnitName {
 }
 
 // What a result's words are: tenths with a sign, or whole numbers without one.
-#[derive(Clone, Copy)]
+#[derive(Clone, Copy, PartialEq, Eq)]
 pub enum Number {
     Level,
     Plain,
 }
 
 // A row of the results, and the offset of its words in a profile's record.
-#[derive(Clone, Copy)]
+#[derive(Clone, Copy, PartialEq, Eq)]
 pub struct Entry {
     pub name: ResultName,
     pub unit: UnitName,
@@ -49,134 +49,46 @@ pub struct Entry {
     pub offset: u16,
 }
 
+// A result that is a level.
+macro_rules! decibels {
+    ($name:ident, $offset:literal) => {
+        Entry {
+            name: ResultName::$name,
+            unit: UnitName::Decibel,
+            number: Number::Level,
+            offset: $offset,
+        }
+    };
+}
+
 // The 945's eleven, and then the 953's ten, of which the last two are the dose meter's.
 const RESULTS: [Entry; 21] = [
-    Entry {
-        name: ResultName::Peak,
-        unit: UnitName::Decibel,
-        number: Number::Level,
-        offset: 3,
-    },
-    Entry {
-        name: ResultName::Max,
-        unit: UnitName::Decibel,
-        number: Number::Level,
-        offset: 4,
-    },
-    Entry {
-        name: ResultName::Min,
-        unit: UnitName::Decibel,
-        number: Number::Level,
-        offset: 5,
-    },
-    Entry {
-        name: ResultName::Spl,
-        unit: UnitName::Decibel,
-        number: Number::Level,
-        offset: 6,
-    },
-    Entry {
-        name: ResultName::Leq,
-        unit: UnitName::Decibel,
-        number: Number::Level,
-        offset: 7,
-    },
-    Entry {
-        name: ResultName::Sel,
-        unit: UnitName::Decibel,
-        number: Number::Level,
-        offset: 8,
-    },
-    Entry {
-        name: ResultName::Lex8,
-        unit: UnitName::Decibel,
-        number: Number::Level,
-        offset: 9,
-    },
-    Entry {
-        name: ResultName::Ltm3,
-        unit: UnitName::Decibel,
-        number: Number::Level,
-        offset: 10,
-    },
-    Entry {
-        name: ResultName::Ltm5,
-        unit: UnitName::Decibel,
-        number: Number::Level,
-        offset: 11,
-    },
+    decibels!(Peak, 3),
+    decibels!(Max, 4),
+    decibels!(Min, 5),
+    decibels!(Spl, 6),
+    decibels!(Leq, 7),
+    decibels!(Sel, 8),
+    decibels!(Lex8, 9),
+    decibels!(Ltm3, 10),
+    decibels!(Ltm5, 11),
     Entry {
         name: ResultName::N,
         unit: UnitName::Percent,
         number: Number::Plain,
         offset: 12,
     },
-    Entry {
-        name: ResultName::Ln,
-        unit: UnitName::Decibel,
-        number: Number::Level,
-        offset: 13,
-    },
-    Entry {
-        name: ResultName::Peak,
-        unit: UnitName::Decibel,
-        number: Number::Level,
-        offset: 3,
-    },
-    Entry {
-        name: ResultName::Max,
-        unit: UnitName::Decibel,
-        number: Number::Level,
-        offset: 5,
-    },
-    Entry {
-        name: ResultName::Min,
-        unit: UnitName::Decibel,
-        number: Number::Level,
-        offset: 6,
-    },
-    Entry {
-        name: ResultName::Spl,
-        unit: UnitName::Decibel,
-        number: Number::Level,
-        offset: 7,
-    },
-    Entry {
-        name: ResultName::Leq,
-        unit: UnitName::Decibel,
-        number: Number::Level,
-        offset: 8,
-    },
-    Entry {
-        name: ResultName::Lden,
-        unit: UnitName::Decibel,
-        number: Number::Level,
-        offset: 9,
-    },
-    Entry {
-        name: ResultName::Ltm3,
-        unit: UnitName::Decibel,
-        number: Number::Level,
-        offset: 10,
-    },
-    Entry {
-        name: ResultName::Ltm5,
-        unit: UnitName::Decibel,
-        number: Number::Level,
-        offset: 11,
-    },
-    Entry {
-        name: ResultName::Lav,
-        unit: UnitName::Decibel,
-        number: Number::Level,
-        offset: 12,
-    },
-    Entry {
-        name: ResultName::Tlav,
-        unit: UnitName::Decibel,
-        number: Number::Level,
-        offset: 13,
-    },
+    decibels!(Ln, 13),
+    decibels!(Peak, 3),
+    decibels!(Max, 5),
+    decibels!(Min, 6),
+    decibels!(Spl, 7),
+    decibels!(Leq, 8),
+    decibels!(Lden, 9),
+    decibels!(Ltm3, 10),
+    decibels!(Ltm5, 11),
+    decibels!(Lav, 12),
+    decibels!(Tlav, 13),
 ];
 
 #[tactic(auto, unfolding(crate::specs::Results::name_of))]

@@ -1,2 +1,3 @@
+pub mod BandLaws
 pub mod FillLaws
 pub mod RecordLaws

@@ -11,11 +11,11 @@ pub fn read_full<R: Read>(from: &mut R, held: &mut [u8]) -> usize
     ensures { result ≤ length held.new }
 {
     let mut at = 0;
+    // No plainer: a step is as long as what a read gave, so no range says the places.
     while at < held.len() {
         match from.read(&mut held[at..]) {
-            Ok(0) => return at,
+            Ok(0) | Err(_) => break,
             Ok(n) => at += n,
-            Err(_) => return at,
         }
     }
     at
@@ -30,10 +30,7 @@ pub fn write_all<P: Print>(to: &P, bytes: &[u8]) -> bool {
 pub fn arg<E: Env>(rt: &E, i: usize, held: &mut [u8]) -> usize
     ensures { result ≤ length held.new }
 {
-    match rt.arg(i, held) {
-        Ok(n) => n,
-        Err(_) => 0,
-    }
+    rt.arg(i, held).unwrap_or(0)
 }
 
 // How many arguments there are, the program's name among them, and `most` where there are more.
@@ -41,12 +38,10 @@ pub fn arg_count<E: Env>(rt: &E, most: usize) -> usize
     ensures { result ≤ most }
 {
     let mut front = [0u8; 1];
-    let mut n = 0;
-    while n < most {
+    for n in 0..most {
         if let Err(FillError::NotPresent) = rt.arg(n, &mut front) {
             return n;
         }
-        n += 1;
     }
-    n
+    most
 }

@@ -15,7 +15,6 @@ use rooms::{print_part, print_room};
 use std::io::Read;
 use streams::write_all;
 use test_packs::{read_item, read_next};
-use text::read::is_same;
 use words::long;
 
 // Prints the line of Check's answer.
@@ -27,22 +26,14 @@ fn print_verdict<P: Print>(rt: &P, file: &[u8]) -> bool {
 
 // Prints what a call answers that is given no numbers.
 fn print_whole<'a, P: Print>(rt: &P, call: &[u8], label: &'a [u8], file: &'a [u8]) -> bool {
-    if is_same(call, b"check") {
-        return print_verdict(rt, file);
+    match call {
+        b"check" => print_verdict(rt, file),
+        b"title" => print_title(rt, file, label),
+        b"slim" => print_slim(rt, file),
+        b"sheet" => print_sheet(rt, file, label),
+        b"lines" => print_lines(rt, file, label),
+        _ => write_all(rt, b"no such call\n"),
     }
-    if is_same(call, b"title") {
-        return print_title(rt, file, label);
-    }
-    if is_same(call, b"slim") {
-        return print_slim(rt, file);
-    }
-    if is_same(call, b"sheet") {
-        return print_sheet(rt, file, label);
-    }
-    if is_same(call, b"lines") {
-        return print_lines(rt, file, label);
-    }
-    write_all(rt, b"no such call\n")
 }
 
 // Prints what a call answers. Only Slim and Sheet take numbers.
@@ -55,20 +46,21 @@ fn print_answer<'a, P: Print>(
 ) -> bool {
     let n = long(numbers, 0);
     let room = long(numbers, 2) as usize;
-    if numbers.len() == 8 && is_same(call, b"slim") {
-        return print_room(rt, file, room);
+    match (call, numbers.len()) {
+        (b"slim", 8) => print_room(rt, file, room),
+        (b"sheet", 8) => print_part(rt, file, label, n, room),
+        _ => print_whole(rt, call, label, file),
     }
-    if numbers.len() == 8 && is_same(call, b"sheet") {
-        return print_part(rt, file, label, n, room);
-    }
-    print_whole(rt, call, label, file)
 }
 
 // What an empty file stands for: how many bytes of the file before it.
 fn kept(call: &[u8], last: usize) -> usize
     ensures { result ≤ last }
 {
-    if is_same(call, b"check") { 0 } else { last }
+    match call {
+        b"check" => 0,
+        _ => last,
+    }
 }
 
 // The next question of the pack, after one on a file of `last` bytes. Answers the size of its file.
@@ -76,18 +68,18 @@ fn print_next<P: Print, R: Read>(
     rt: &P,
     pack: &mut R,
     call: &[u8],
-    name: &mut [u8],
-    label: &mut [u8],
     file: &mut [u8],
     last: usize,
 ) -> usize
     requires { last ≤ length file.old }
     ensures { result ≤ length file.new }
 {
-    let a = read_item(pack, name);
-    let b = read_item(pack, label);
-    let c = read_next(pack, file, kept(call, last));
+    let mut name = [0u8; 255];
+    let mut label = [0u8; 508];
     let mut numbers = [0u8; 8];
+    let a = read_item(pack, &mut name);
+    let b = read_item(pack, &mut label);
+    let c = read_next(pack, file, kept(call, last));
     let d = read_item(pack, &mut numbers);
     write_all(rt, &name[0..a]);
     print_answer(rt, call, &label[0..b], &file[0..c], &numbers[0..d]);
@@ -97,27 +89,15 @@ fn print_next<P: Print, R: Read>(
 fn main(rt: HostRuntime) {
     let mut pack = rt.reader();
     let mut call = [0u8; 32];
-    let mut name = [0u8; 255];
-    let mut label = [0u8; 508];
     // A file of a pack has at most one word more than a file may have.
     let mut file = [0u8; 65538];
     let mut size = 0;
     // A proved loop has to end, and nothing says that the input does: a pack has at most a million questions.
-    let mut left = 1000000u32;
-    while left > 0 {
+    for _ in 0..1000000 {
         let n = read_item(&mut pack, &mut call);
         if n == 0 {
             return;
         }
-        size = print_next(
-            &rt,
-            &mut pack,
-            &call[0..n],
-            &mut name,
-            &mut label,
-            &mut file,
-            size,
-        );
-        left -= 1;
+        size = print_next(&rt, &mut pack, &call[0..n], &mut file, size);
     }
 }

@@ -5,7 +5,7 @@ ghost use Rattle.std.specs.Prelude.{◌≤◌};
 
 use desk_files::Task;
 use desk_return::{Job, serve_all};
-use desk_targets::load::{Got, load, text_of};
+use desk_targets::load::{load, text_of};
 use std::env::Env;
 use std::fs::{Files, Permissions, set_permissions};
 use std::os::unix::fs::PermissionsExt;
@@ -54,8 +54,8 @@ fn run<R: Env + Files + Print>(
 // A file after its name, where it is there and can be read.
 fn print_back<R: Files + Print>(rt: &R, path: &[u8], scratch: &mut [u8]) -> bool {
     match load(rt, path, false, scratch) {
-        Got::Failed(_) => false,
-        Got::Bytes(n) => {
+        Err(_) => false,
+        Ok(n) => {
             write_all(rt, path);
             write_all(rt, b":\n");
             write_all(rt, &scratch[0..n])
@@ -74,10 +74,8 @@ fn print_target<R: Env + Files + Print>(rt: &R, at: usize, scratch: &mut [u8]) -
 fn print_all<R: Env + Files + Print>(rt: &R, files: usize, scratch: &mut [u8])
     requires { files ≤ 32768 }
 {
-    let mut i = 0;
-    while i < files {
+    for i in 0..files {
         print_target(rt, 2 + 4 * i, scratch);
-        i += 1;
     }
 }
 

@@ -1,13 +1,14 @@
 // One row of each kind of text, from literal values, and the lines of the 1/3 octave bands as many at a time as fit.
 #![tactic(auto)]
 
-ghost use Rattle.std.specs.Prelude.{[], ◌∷◌, ◌≤◌, length, drop};
+ghost use denote.Ref.{MutBor};
+ghost use Rattle.std.specs.Prelude.{◌≡◌, List, ℕ, [], ◌∷◌, ◌≤◌, length, drop};
 ghost use Rattle.text.specs.Text.{Wrote};
-ghost use Rattle.paging.specs.Fit.{TriedTo, Filled};
+ghost use Rattle.paging.specs.Fit.{Filled};
 ghost use Rattle.paging.specs.Run.{Inside, Continued};
 ghost use Rattle.test_numbers.specs.Rows.{band_line, band_lines};
 
-use paging::fit::{Progress, Tried, try_line};
+use paging::fit::Progress;
 use paging::run::Run;
 use streams::write_all;
 use text::decimal::put_decimal;
@@ -24,37 +25,21 @@ fn put_band(out: &mut [u8], f: Centihertz) -> usize
     a + put_byte(&mut out[a..], b'\n')
 }
 
-// The same where it fits: made in a scratch array, since its length decides.
-fn try_band(out: &mut [u8], f: Centihertz) -> Tried
-    ensures { TriedTo (band_line f) out.old out.new result }
-{
-    let mut scratch = [0u8; 13];
-    let n = put_band(&mut scratch, f);
-    try_line(out, &scratch[0..n])
-}
-
-// The same after the lines of a run.
+// The same after the lines of a run, where it fits.
 fn fill_band(out: &mut [u8], run: Run, f: Centihertz) -> Run
     requires { Inside run out.old }
     ensures { Continued (band_line f ∷ []) out.old out.new run result }
 {
-    if !run.writes() {
-        return run.passed(1);
-    }
-    let at = run.bytes;
-    run.after(try_band(&mut out[at..], f))
+    run.write_line::<13, _>(out, |rest| put_band(rest, f))
 }
 
 // As many bands, from band `first` on, as fit.
 fn put_bands(out: &mut [u8], first: u32) -> Progress
     ensures { Filled (drop first band_lines) out.old out.new result }
 {
-    let bands = thirds();
     let mut run = Run::start(first as usize);
-    let mut i = 0;
-    while i < 45 {
-        run = fill_band(out, run, bands[i]);
-        i += 1;
+    for band in thirds() {
+        run = fill_band(out, run, band);
     }
     Progress {
         lines: run.lines as u32,
@@ -72,28 +57,14 @@ fn print<P: Print>(rt: &P, kind: &[u8], out: &[u8], n: usize)
     write_all(rt, b"\n");
 }
 
-fn print_text<P: Print>(rt: &P, text: &[u8; 8]) {
-    let mut out = [0u8; 8];
-    let n = put_text(&mut out, text);
-    print(rt, b"text,", &out, n);
-}
-
-fn print_decimal<P: Print>(rt: &P, kind: &[u8], v: u64) {
+// The same, of a text that `put` writes into 20 bytes.
+fn print_put<P: Print, W: FnOnce(&mut [u8]) -> usize>(rt: &P, kind: &[u8], put: W)
+    requires takes { (s : MutBor (List ℕ)) → length s.now ≡ 20 → W.pre put s }
+    requires within { (s t : MutBor (List ℕ)) (n : ℕ) → length s.now ≡ 20 → W.post put s n t → n ≤ 20 }
+{
     let mut out = [0u8; 20];
-    let n = put_decimal(&mut out, v);
+    let n = put(&mut out);
     print(rt, kind, &out, n);
-}
-
-fn print_level<P: Print>(rt: &P, kind: &[u8], t: Tenths) {
-    let mut out = [0u8; 12];
-    let n = put_tenths(&mut out, t);
-    print(rt, kind, &out, n);
-}
-
-fn print_frequency<P: Print>(rt: &P, f: Centihertz) {
-    let mut out = [0u8; 12];
-    let n = put_centihertz(&mut out, f);
-    print(rt, b"frequency,", &out, n);
 }
 
 // The lines of the bands that fit into 16 bytes, and how many these are.
@@ -102,17 +73,28 @@ fn print_bands<P: Print>(rt: &P, first: u32) {
     let p = put_bands(&mut out, first);
     let n = p.bytes;
     print(rt, b"bands\n", &out, n);
-    print_decimal(rt, b"lines,", p.lines as u64);
+    print_put(rt, b"lines,", |out| put_decimal(out, p.lines as u64));
 }
 
 fn main(rt: HostRuntime) {
-    print_text(&rt, b"Hall\x1F\x7F~ ");
-    print_decimal(&rt, b"number,", 18446744073709551615);
-    print_decimal(&rt, b"time,", words::long(b"\x01\x00\x02\x00", 0) as u64);
-    print_level(&rt, b"level,", Tenths::level(words::word(b"\xFB\xFF", 0)));
-    print_level(&rt, b"level,", Tenths::level(0x8000));
-    print_level(&rt, b"bound,", Tenths::bound(0x7FFF, 16319, 65535));
-    print_frequency(&rt, Centihertz(3150));
+    print_put(&rt, b"text,", |out| put_text(out, b"Hall\x1F\x7F~ "));
+    print_put(
+        &rt,
+        b"number,",
+        |out| put_decimal(out, 18446744073709551615),
+    );
+    let time = words::long(b"\x01\x00\x02\x00", 0);
+    print_put(&rt, b"time,", |out| put_decimal(out, time as u64));
+    let level = Tenths::level(words::word(b"\xFB\xFF", 0));
+    print_put(&rt, b"level,", |out| put_tenths(out, level));
+    print_put(&rt, b"level,", |out| put_tenths(out, Tenths::level(0x8000)));
+    let bound = Tenths::bound(0x7FFF, 16319, 65535);
+    print_put(&rt, b"bound,", |out| put_tenths(out, bound));
+    print_put(
+        &rt,
+        b"frequency,",
+        |out| put_centihertz(out, Centihertz(3150)),
+    );
     print_bands(&rt, 0);
     print_bands(&rt, 43);
     print_bands(&rt, 45);

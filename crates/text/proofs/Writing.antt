@@ -19,10 +19,6 @@ rest n d = take_all (length d - n) (drop n d) (simp length-drop (le_refl _))
 pub rest_length : (n : ℕ) (d : List ℕ) → length (mid_of n (length d - n) d) ≡ length d - n
 rest_length n d = ap length (rest n d) ∙ length-drop n d
 
--- the same of an array of k elements
-pub rest_of : (n k : ℕ) (d : List ℕ) → length d ≡ k → take (k - n) (drop n d) ≡ drop n d
-rest_of n k d e = rw (← e) (rest n d)
-
 pub put_rest : (n : ℕ) (d e : List ℕ) → put_mid n (length d - n) d e ≡ take n d ++ e
 put_rest n d e = ap (λ (l : List ℕ). take n d ++ l) (ap (λ (l : List ℕ). e ++ l) (drop_of_length-le (drop n d) {i = length d - n} (simp length-drop (le_refl _))) ∙ append-nil e)
 
@@ -57,18 +53,11 @@ push {t} {d} {e} {n} {p} b w h = record {
 pub nothing : (d : List ℕ) → Wrote [] 0 d d 0
 nothing d = record { out = refl; counted = refl; within = le_refl 0 }
 
--- a store at the front
-pub stored : (d : List ℕ) (b : ℕ) → 1 ≤ length d → Wrote (b ∷ []) 1 d (set d 0 b) 1
-stored d b h = push b (nothing d) h
-
 -- a text may be said another way
 pub text_is : {t u d e : List ℕ} {n p : ℕ} → Wrote t p d e n → t ≡ u → Wrote u p d e n
 text_is {d = d} {e} {n} {p} w h = subst (λ (x : List ℕ). Wrote x p d e n) h w
 
-pub take_more : (l : List ℕ) (i : ℕ) → i < length l → take i l ++ (get_or l i 0 ∷ []) ≡ take (i + 1) l
-take_more l i h = rw (add-one, take-suc l i 0)
-
--- the same of a list whose elements go through f
+-- one element more of a list whose elements go through f
 pub map_more : (f : ℕ → ℕ) (l : List ℕ) (i b : ℕ) → i < length l → b ≡ f (get_or l i 0) → take i (map f l) ++ (b ∷ []) ≡ take (i + 1) (map f l)
 map_more f l i b h e = rw (add-one, take-suc (map f l) i (f 0) (rw length-map h), get_or-map f l i 0, e)
 

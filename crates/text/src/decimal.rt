@@ -3,7 +3,7 @@ ghost use Rattle.std.specs.Prelude.{◌≡◌, ◌+◌, ◌%◌, ◌^◌, ◌≤
 ghost use Rattle.text.specs.Text.{Wrote};
 ghost use Rattle.text.specs.Decimal.{last_digit, decimal};
 
-use crate::put::{put_byte, put_bytes};
+use crate::put::put_byte;
 
 // The last digit of n.
 fn digit(n: u64) -> u8
@@ -19,21 +19,18 @@ pub fn put_digit(out: &mut [u8], n: u64) -> usize
     put_byte(out, digit(n))
 }
 
-// v where just its digits fit. They are made from the last to the first in a scratch array, and copied.
+// v where just its digits fit, from the last to the first.
 fn put_digits(out: &mut [u8], v: u64) -> usize
     requires { length (decimal v) ≤ length out.old }
     ensures { Wrote (decimal v) (length (decimal v)) out.old out.new result }
 {
-    let mut scratch = [0u8; 20];
-    let mut at = 19;
-    scratch[19] = digit(v);
-    let mut n = v / 10;
-    while n > 0 {
-        at -= 1;
-        scratch[at] = digit(n);
+    let count = v.max(1).ilog10() as usize + 1;
+    let mut n = v;
+    for at in (0..count).rev() {
+        out[at] = digit(n);
         n /= 10;
     }
-    put_bytes(out, &scratch[at..])
+    count
 }
 
 // Any number of 64 bits.
@@ -44,7 +41,7 @@ pub fn put_decimal(out: &mut [u8], v: u64) -> usize
     put_digits(out, v)
 }
 
-// A number of at most nine digits.
+// A number of at most nine digits. Beside `put_decimal` for its clause: the lesser room is what the rooms of its callers rest on.
 pub fn put_short(out: &mut [u8], v: u64) -> usize
     requires v_bound { v < 10 ^ 9 }
     requires in_bounds { 9 ≤ length out.old }

@@ -1,5 +1,5 @@
 // Bytes as they are, and text.
-ghost use Rattle.std.specs.Prelude.{◌≡◌, [], ◌∷◌, map, ◌≤◌, length};
+ghost use Rattle.std.specs.Prelude.{◌≡◌, [], ◌∷◌, map, ℕ, ◌<◌, ◌≤◌, length};
 ghost use Rattle.text.specs.Text.{Wrote, shown};
 
 pub fn put_byte(out: &mut [u8], b: u8) -> usize
@@ -14,35 +14,35 @@ pub fn put_bytes(out: &mut [u8], src: &[u8]) -> usize
     requires { length src.now ≤ length out.old }
     ensures { Wrote src.now (length src.now) out.old out.new result }
 {
-    let mut i = 0;
-    while i < src.len() {
-        out[i] = src[i];
-        i += 1;
+    out[..src.len()].copy_from_slice(src);
+    src.len()
+}
+
+// What f makes of each byte of src: the text is src mapped by any g that says what f answers.
+pub fn put_mapped<F: Fn(u8) -> u8>(out: &mut [u8], src: &[u8], f: F) -> usize
+    requires in_bounds { length src.now ≤ length out.old }
+    requires callable { F.IsAlwaysCallable f }
+    ensures { (g : ℕ → ℕ) → ((b r : ℕ) → b < 256 → F.post f b r → r ≡ g b) → Wrote (map g src.now) (length src.now) out.old out.new result }
+{
+    for (i, b) in src.iter().enumerate() {
+        out[i] = f(*b);
     }
-    i
+    src.len()
 }
 
 // A byte as it is shown: a question mark for one outside 20 to 7E.
 pub fn show(b: u8) -> u8
     ensures { result ≡ shown b }
 {
-    if b < 0x20 {
-        return b'?';
+    match b {
+        0x20..=0x7E => b,
+        _ => b'?',
     }
-    if 0x7E < b {
-        return b'?';
-    }
-    b
 }
 
 pub fn put_text(out: &mut [u8], src: &[u8]) -> usize
     requires { length src.now ≤ length out.old }
     ensures { Wrote (map shown src.now) (length src.now) out.old out.new result }
 {
-    let mut i = 0;
-    while i < src.len() {
-        out[i] = show(src[i]);
-        i += 1;
-    }
-    i
+    put_mapped(out, src, show)
 }

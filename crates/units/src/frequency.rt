@@ -31,7 +31,7 @@ pub fn put_centihertz(out: &mut [u8], f: Centihertz) -> usize
     requires { 12 ≤ length out.old }
     ensures { Wrote (centihertz f) 12 out.old out.new result }
 {
-    let n = f.0 as u64;
+    let n = u64::from(f.0);
     let a = put_short(out, n / 100);
     a + put_fraction(&mut out[a..], n % 100)
 }
@@ -86,6 +86,7 @@ const THIRDS: [Centihertz; 45] = [
 ];
 
 // The table whole, so that a caller takes it once for all its rows: an element of a constant costs the whole table each time.
+#[tactic(auto, unfolding(crate::specs::Frequency::thirds))]
 pub fn thirds() -> [Centihertz; 45]
     ensures { result ≡ thirds }
 {
@@ -93,6 +94,8 @@ pub fn thirds() -> [Centihertz; 45]
 }
 
 // The place of a band of w hundredths of a hertz on the list of 1/1 octaves, or the list's length. A word holds the first ten.
+// No Option: the clause has the list's length for none, which `first_band_of` and the number of bands left count with.
+#[tactic(auto, unfolding(crate::specs::Frequency::octaves, crate::specs::Frequency::band_place))]
 pub fn octave_place(w: u16) -> u16
     ensures { result ≡ band_place w octaves }
 {

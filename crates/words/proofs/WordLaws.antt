@@ -5,7 +5,7 @@ use mathlib.Core.List.{List, [], ◌∷◌, ◌++◌}
 use Prim.Native.Nat.{ℕ, zero, suc, ◌+◌, ◌-◌, ◌*◌, ◌/◌, ◌%◌, ◌≤◌, ◌<◌}
 use native.Mathlib.Nat.{add-zero}
 use native.Mathlib.Omega.{arith}
-use lib.ListN.{length, get_or, take, drop, length-take, length-drop, drop_of_length-le, get_or-eq_default}
+use lib.ListN.{length, get_or, take, drop, length-take, length-drop, get_or-eq_default}
 use lib.Seq.{drop-nil, take-nil, take_all, get_or-drop}
 use Rattle.words.specs.Words.{low, high, words_of, bytes_of, long_at, Holds}
 
@@ -144,11 +144,6 @@ part_holds bs k m e s h fits =
 pub rest_holds : (bs : List ℕ) (k n e : ℕ) → Below 256 bs → n ≡ length (words_of bs) → k ≤ n → e ≡ 2 * n - 2 * k → Holds (drop k (words_of bs)) (take e (drop (2 * k) bs))
 rest_holds bs k n e s h fits d =
     rw (take_all (n - k) (drop k (words_of bs)) (rw length-drop (omega arith))) at (part_holds bs k (n - k) e s (omega arith) (omega (arith, words_length bs)))
-
--- past the last word
-pub none_holds : (ws : List ℕ) (k : ℕ) → length ws ≤ k → Holds (drop k ws) []
-unfolding words_of bytes_of
-none_holds ws k h = rw (drop_of_length-le ws {i = k} h) (record { words = refl; bytes = refl })
 
 -- the 32-bit number at word i, from the two words at the front of those from i on
 pub long_from : (ws vs : List ℕ) (i x y : ℕ) → vs ≡ drop i ws → x ≡ get_or vs 0 0 → y ≡ get_or vs 1 0 → x + 65536 * y ≡ long_at ws i

@@ -24,34 +24,28 @@ pub fn word(bytes: &[u8], i: usize) -> u16
     ensures { result ≡ get_or (words_of bytes.now) i 0 }
 {
     if i < bytes.len() / 2 {
-        bytes[2 * i] as u16 + 256 * (bytes[2 * i + 1] as u16)
+        u16::from_le_bytes([bytes[2 * i], bytes[2 * i + 1]])
     } else {
         0
     }
 }
 
 // The words from word k on; none past the end.
+#[tactic(auto, using(crate::proofs::WordLaws::words_length))]
 pub fn rest(bytes: &[u8], k: usize) -> &[u8]
     ensures { Holds (drop k (words_of bytes.now)) result.now }
 {
     let n = count(bytes);
-    if k <= n {
-        &bytes[2 * k..2 * n]
-    } else {
-        &bytes[0..0]
-    }
+    &bytes[2 * k.min(n)..2 * n]
 }
 
 // The first n words, or all where there are fewer.
+#[tactic(auto, using(crate::proofs::WordLaws::words_length))]
 pub fn front(bytes: &[u8], n: usize) -> &[u8]
     ensures { Holds (take n (words_of bytes.now)) result.now }
 {
     let all = count(bytes);
-    if n <= all {
-        &bytes[0..2 * n]
-    } else {
-        &bytes[0..2 * all]
-    }
+    &bytes[..2 * n.min(all)]
 }
 
 // The 32-bit number at word i, low word first.
@@ -59,5 +53,5 @@ pub fn long(bytes: &[u8], i: usize) -> u32
     ensures { result ≡ long_at (words_of bytes.now) i }
 {
     let field = rest(bytes, i);
-    word(field, 0) as u32 + 65536 * (word(field, 1) as u32)
+    u32::from(word(field, 0)) + 65536 * u32::from(word(field, 1))
 }

@@ -10,9 +10,9 @@ use Rattle.call_check.proofs.Onward.{Onward}
 use Rattle.call_slim.specs.Copy.{slim_words}
 use Rattle.call_slim.proofs.copy_words.Given as goal
 
-abbrev pub invariant-loop-start : goal.invariant-loop-start
-invariant-loop-start l =
+abbrev pub invariant-loop-block : goal.invariant-loop-block
+invariant-loop-block l =
     (xs : List Slim) × (Onward (words_of l.file) l.cursor l.known xs × (l.n + length (slim_words xs) ≡ length (slim_words (slims_in l.file))))
 
-abbrev pub decreases-loop-start : goal.decreases-loop-start
-decreases-loop-start l = suc (length (words_of l.file)) - l.cursor.at
+abbrev pub decreases-loop-block : goal.decreases-loop-block
+decreases-loop-block l = suc (length (words_of l.file)) - l.cursor.at

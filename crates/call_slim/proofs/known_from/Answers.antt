@@ -6,4 +6,4 @@ use Rattle.call_slim.proofs.known_from.Goals as goal
 pub returns : goal.returns
 returns c =
     let s = c.args in
-    known_at (words_of s.file.now) s.known s.start s.len c.rest.ensures c.front.ensures c.learnt.ensures
+    known_at (words_of s.file.now) s.known s.block.start s.block.length c.words.ensures c.learnt.ensures

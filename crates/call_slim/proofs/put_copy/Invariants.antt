@@ -10,9 +10,9 @@ use Rattle.file_slim.proofs.WordWriting.{Begun}
 use Rattle.call_slim.specs.Copy.{slim_words}
 use Rattle.call_slim.proofs.put_copy.Given as goal
 
-abbrev pub invariant-loop-start : goal.invariant-loop-start
-invariant-loop-start l =
+abbrev pub invariant-loop-block : goal.invariant-loop-block
+invariant-loop-block l =
     (xs : List Slim) × (Onward (words_of l.file) l.cursor l.known xs × Begun (slim_words (slims_in l.file)) (slim_words xs) l.initial.out l.out l.n)
 
-abbrev pub decreases-loop-start : goal.decreases-loop-start
-decreases-loop-start l = suc (length (words_of l.file)) - l.cursor.at
+abbrev pub decreases-loop-block : goal.decreases-loop-block
+decreases-loop-block l = suc (length (words_of l.file)) - l.cursor.at

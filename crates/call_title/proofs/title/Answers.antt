@@ -10,24 +10,24 @@ pub returns-in_default : goal.returns-in_default
 unfolding title_of handed
 returns-in_default c =
     let a = c.args in
-    sym (ap (handed a.file a.label) (sym c.title_at-found.ensures ∙ c.in_default.is))
+    sym (ap (handed a.file a.label) (sym c.title_at.ensures ∙ c.in_default.is))
 
 pub overflow_add-result : goal.overflow_add-result
 overflow_add-result c =
-    let there = title_part c.args.file.now (λ i. omega (arith, c.type_inv.file i)) _ _ (sym c.title_at-found.ensures ∙ c.in-Text.is) in
+    let there = title_part c.args.file.now (λ i. omega (arith, c.type_inv.file i)) _ _ (sym c.title_at.ensures ∙ c.in-Some.is) in
     omega (arith, there.fits)
 
 pub slice_bounds-result-end : goal.slice_bounds-result-end
 slice_bounds-result-end c =
-    let there = title_part c.args.file.now (λ i. omega (arith, c.type_inv.file i)) _ _ (sym c.title_at-found.ensures ∙ c.in-Text.is) in
+    let there = title_part c.args.file.now (λ i. omega (arith, c.type_inv.file i)) _ _ (sym c.title_at.ensures ∙ c.in-Some.is) in
     omega (arith, there.fits)
 
 pub returns : goal.returns
 unfolding title_of handed part_of
 returns c =
     let a = c.args in
-    let at = c.in-Text.at in
-    let n = c.in-Text.len in
+    let at = c.in-Some.span.at in
+    let n = c.in-Some.span.len in
     let size : at + n - at ≡ n = omega arith in
     ap (part_of a.file at) size
-    ∙ sym (ap (handed a.file a.label) (sym c.title_at-found.ensures ∙ c.in-Text.is))
+    ∙ sym (ap (handed a.file a.label) (sym c.title_at.ensures ∙ c.in-Some.is))

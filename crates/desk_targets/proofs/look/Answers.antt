@@ -1,13 +1,12 @@
 -- `look` meets its contract: what was read decides.
-use Prim.Native.Nat.{◌-◌}
-use Rattle.desk_targets.specs.declared.load.Got.TheVariants.{Bytes, Failed}
+use Rattle.std.specs.Prelude.{◌-◌, Ok, Err}
 use Rattle.desk_targets.specs.Target.{by_reading}
 use Rattle.desk_targets.proofs.look.Goals as goal
 
-pub returns-in-Failed : goal.returns-in-Failed
+pub returns-in-Ok : goal.returns-in-Ok
 unfolding by_reading
-returns-in-Failed g c = record { got = Failed _; reads = c.by_error.ensures }
+returns-in-Ok g c = record { got = Ok (c.in-Ok.n - 0); reads = c.by_bytes.ensures }
 
-pub returns-in-Bytes : goal.returns-in-Bytes
+pub returns-in-Err : goal.returns-in-Err
 unfolding by_reading
-returns-in-Bytes g c = record { got = Bytes (c.in-Bytes.n - 0); reads = c.by_bytes.ensures }
+returns-in-Err g c = record { got = Err _; reads = c.by_error.ensures }

@@ -1,27 +1,23 @@
--- `put_cause` meets its contract: an error without words has written nothing yet.
-use mathlib.Core.Path.{◌≡◌, sym, ◌∙◌}
-use mathlib.Core.List.{List, [], ◌∷◌}
-use Prim.Native.Nat.{ℕ}
+-- `put_cause` meets its contract: an error has words, or goes by its number.
+use mathlib.Core.Path.{◌≡◌, ap}
 use native.Mathlib.Omega.{arith}
 use borrow.Author.Rules.{rules}
 use borrow.Author.Tests.{eq-eqb, ne_eqb}
-use Rattle.text.specs.Text.{Wrote}
-use Rattle.text.proofs.Writing.{at_most}
-use Rattle.desk_words.specs.Meanings.{cause}
+use lib.ListN.{length}
+use Rattle.text.specs.Text.{named}
+use Rattle.text.proofs.Writing.{text_is, at_most}
+use Rattle.desk_words.specs.Meanings.{causes, cause}
 use Rattle.desk_words.proofs.put_cause.Goals as goal
 
--- a text of no bytes was written: all is as it was, and what is written next is written there
-after_none : {t u d e f : List ℕ} {n m p q : ℕ} → Wrote t p d e n → n ≡ 0 → Wrote u q e f m → Wrote u q d f m
-after_none {t = []} w z x = rw (sym w.out) x
-after_none {t = b ∷ t} w z x = absurd (omega (arith, w.counted))
-
-pub returns-then-n-eq0 : goal.returns-then-n-eq0
+pub returns-in-Some : goal.returns-in-Some
 unfolding cause
-returns-then-n-eq0 c =
-    simp (eq-eqb _ _ (sym c.put_known_cause-n.ensures.counted ∙ c.if-n-eq0.true))
-    (at_most (after_none c.put_known_cause-n.ensures c.if-n-eq0.true c.put_error.ensures) (search rules))
+returns-in-Some c =
+    let w = c.in-Some.ensures in
+    let same : length c.in-Some.words.now ≡ length (named causes c.args.error) = ap length w.words in
+    simp (ne_eqb (length (named causes c.args.error)) 0 (omega arith)) (text_is (at_most c.put_bytes.ensures w.sized.1) w.words)
 
-pub returns : goal.returns
+pub returns-in-None : goal.returns-in-None
 unfolding cause
-returns c =
-    simp (ne_eqb _ _ (λ e. c.if-n-eq0.false (c.put_known_cause-n.ensures.counted ∙ e))) c.put_known_cause-n.ensures
+returns-in-None c =
+    let none : length (named causes c.args.error) ≡ 0 = ap length c.in-None.ensures.words in
+    simp (eq-eqb (length (named causes c.args.error)) 0 none) (at_most c.put_error.ensures (search rules))

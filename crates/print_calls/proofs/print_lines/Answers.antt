@@ -5,9 +5,12 @@ use Rattle.print_calls.proofs.print_lines.Goals as goal
 
 pub slice_bounds-write_all-end : goal.slice_bounds-write_all-end
 slice_bounds-write_all-end g c =
-    omega (arith, counts_within (success _ (rw c.in-Written.is at c.sheet.ensures)))
+    omega (arith, counts_within (success _ (rw c.in-Ok.is at c.sheet.ensures)))
 
-pub returns-in-Written : goal.returns-in-Written
-returns-in-Written g c =
-    let t = success _ (rw c.in-Written.is at c.sheet.ensures) in
-    (next_small t (omega arith), goes_on t (λ i. omega (arith, c.type_inv.file i)))
+pub overflow_add-result : goal.overflow_add-result
+overflow_add-result g c =
+    omega (arith, next_small (success _ (rw c.in-Ok.is at c.sheet.ensures)) (omega arith))
+
+pub returns-else-p : goal.returns-else-p
+returns-else-p g c =
+    omega (arith, goes_on (success _ (rw c.in-Ok.is at c.sheet.ensures)) (λ i. omega (arith, c.type_inv.file i)) c.if-p.false)

@@ -5,4 +5,4 @@ use Rattle.print_calls.proofs.print_slim.Goals as goal
 
 pub slice_bounds-write_all-end : goal.slice_bounds-write_all-end
 slice_bounds-write_all-end g c =
-    omega (arith, slimmed_fits c.slim.ensures _ c.in-Written.is)
+    omega (arith, slimmed_fits c.slim.ensures _ c.in-Ok.is)

@@ -19,7 +19,7 @@ loop-place-preserved c =
     let number = number_at 0 place_count c.loop-place.place (omega arith) in
     let place : c.loop-place.place ≡ get_or (numbers_from 0 place_count) c.loop-place.place 0 = omega (arith, number) in
     next (start_entry c.args.starts) 19 (numbers_from 0 place_count) c.loop-place.invariant (omega (arith, numbers_length 0 place_count)) (omega (arith, numbers_length 0 place_count)) place
-    (text_is c.put_entry-n.ensures (ap (entry (named keys c.loop-place.place)) c.start.ensures))
+    (text_is c.put_entry-at.ensures (ap (entry (named keys c.loop-place.place)) c.start.ensures))
 
 pub returns : goal.returns
 returns c = ended _ 19 _ c.loop-place.invariant (omega (arith, numbers_length 0 place_count)) (omega (arith, numbers_length 0 place_count))

@@ -1,5 +1,4 @@
 -- `put_starts` meets its contract: the loop's state is `Pieces`, of the nine places.
-use Prim.Native.Nat.{◌-◌}
 use Rattle.words.specs.Numbers.{numbers_from}
 use Rattle.text.proofs.Pieces.{Pieces}
 use Rattle.call_check.specs.Starts.{place_count}
@@ -8,6 +7,3 @@ use Rattle.print_check.proofs.put_starts.Given as goal
 
 abbrev pub invariant-loop-place : goal.invariant-loop-place
 invariant-loop-place l = Pieces (start_entry l.starts) 19 (numbers_from 0 place_count) l.initial.out l.out l.at l.place
-
-abbrev pub decreases-loop-place : goal.decreases-loop-place
-decreases-loop-place l = 9 - l.place

@@ -1,5 +1,4 @@
 -- `put_levels` meets its contract: the loop's state is `Pieces`, of the words.
-use Prim.Native.Nat.{◌-◌, ◌≤◌}
 use Rattle.words.specs.Words.{words_of}
 use Rattle.sheet_fields.specs.Fields.{level_field}
 use Rattle.text.proofs.Pieces.{Pieces}
@@ -7,7 +6,4 @@ use Rattle.sheet_fields.proofs.CellLaws.{cell}
 use Rattle.sheet_fields.proofs.put_levels.Given as goal
 
 abbrev pub invariant-loop-i : goal.invariant-loop-i
-invariant-loop-i l = (l.i ≤ l.all) × Pieces (cell level_field) 13 (words_of l.words) l.initial.out l.out l.at l.i
-
-abbrev pub decreases-loop-i : goal.decreases-loop-i
-decreases-loop-i l = l.all - l.i
+invariant-loop-i l = Pieces (cell level_field) 13 (words_of l.words) l.initial.out l.out l.at l.i

@@ -19,18 +19,18 @@ all_lines n i {d} s h c =
     let all = lines_are c (take_all i band_lines (omega (arith, lines_length))) in
     (all.goes n [] d (subst (λ (r : Run). Running n [] d d r) (sym s) (begin n d))).filled
 
-pub loop-i-init : goal.loop-i-init
-loop-i-init c =
-    (omega arith, none (rw c.start-run.ensures (inside_start c.args.first c.args.out.now)))
+pub loop-band-init : goal.loop-band-init
+loop-band-init c =
+    none (rw c.start-run.ensures (inside_start c.args.first c.args.out.now))
 
-pub loop-i-preserved : goal.loop-i-preserved
-loop-i-preserved c =
-    (omega arith, lines_are (c.loop-i.invariant.1 follow c.fill_band-run.ensures) (lines_next _ c.loop-i.i _ c.thirds-bands.ensures (omega arith)))
+pub loop-band-preserved : goal.loop-band-preserved
+loop-band-preserved c =
+    lines_are (c.loop-band.invariant follow c.fill_band-run.ensures) (lines_next _ c.loop-band.band-index _ c.thirds-band-items.ensures (omega arith))
 
 pub returns : goal.returns
 unfolding progress_of
 returns c =
-    all_lines c.args.first c.loop-i.i c.start-run.ensures c.loop-i-test.false c.loop-i.invariant.1
+    all_lines c.args.first c.loop-band.band-index c.start-run.ensures c.loop-band-test.false c.loop-band.invariant
 
 pub overflow_cast-result : goal.overflow_cast-result
 overflow_cast-result c = record { fits = omega (arith, filled_few (returns c), length-drop c.args.first band_lines, lines_length) }

@@ -7,9 +7,9 @@ use Rattle.call_check.specs.Judge.{first_state, judge}
 use Rattle.call_check.proofs.Turns.{Ahead}
 use Rattle.call_check.proofs.judge.judge_blocks.Given as goal
 
-abbrev pub invariant-loop-next : goal.invariant-loop-next
-invariant-loop-next l =
+abbrev pub invariant-loop-block : goal.invariant-loop-block
+invariant-loop-block l =
     (length (words_of l.file) ≤ 32768) × Ahead (words_of l.file) l.cursor l.state (judge first_state (walked (words_of l.file)))
 
-abbrev pub decreases-loop-next : goal.decreases-loop-next
-decreases-loop-next l = suc (length (words_of l.file)) - l.cursor.at
+abbrev pub decreases-loop-block : goal.decreases-loop-block
+decreases-loop-block l = suc (length (words_of l.file)) - l.cursor.at

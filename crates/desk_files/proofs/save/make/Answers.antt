@@ -1,10 +1,14 @@
 -- `save::make` meets its contract. Assumes nothing.
-use Rattle.desk_files.specs.Desk.{unwritten}
+use Rattle.std.proofs.lemmas.Result.{err_from_is_err_and}
+use Rattle.desk_files.specs.Desk.{told, unwritten}
 use Rattle.desk_files.proofs.DeskLaws.{said_on}
 use Rattle.desk_files.proofs.save.make.Goals as goal
 
-pub returns-in-Err : goal.returns-in-Err
-returns-in-Err g c = unwritten _
+pub returns-in_err-to : goal.returns-in_err-to
+unfolding told
+returns-in_err-to g c =
+    let p = err_from_is_err_and c.from_residual.result c.from_residual.ensures.1 in
+    rw (p.1, p.2) (unwritten _)
 
-pub returns-in-Ok : goal.returns-in-Ok
-returns-in-Ok g c = said_on c.write-o.ensures c.keep.ensures
+pub returns : goal.returns
+returns g c = said_on c.write-written.ensures (c.keep.ensures c.args.file.now)

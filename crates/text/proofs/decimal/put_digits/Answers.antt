@@ -1,26 +1,20 @@
-use borrow.Author.Rules.{rules}
-use mathlib.Core.Path.{◌≡◌, refl, ◌∙◌}
-use mathlib.Core.List.{List, ◌++◌}
-use Prim.Native.Nat.{ℕ, ◌≤◌, ◌<◌, ◌-◌}
-use native.Mathlib.Omega.{arith}
-use lib.ListN.{length, drop, length-set, take}
-use Rattle.text.specs.Decimal.{digits, decimal}
-use Rattle.text.proofs.DecimalLaws.{start, turn, some, fewer, done}
-use Rattle.text.proofs.Writing.{rest_of}
+use Rattle.std.proofs.Common.{◌≡◌, suc, ◌+◌, ◌-◌, length, arith}
+use Rattle.text.specs.Decimal.{decimal}
+use Rattle.text.proofs.DecimalLaws.{decimal_count, begin, turn, done}
 use Rattle.text.proofs.decimal.put_digits.Goals as goal
 
--- what is copied is the number's text
-copied : (at n v : ℕ) (scratch : List ℕ) → length scratch ≡ 20 → n ≤ 0 → digits n n ++ drop at scratch ≡ decimal v → take (20 - at) (drop at scratch) ≡ decimal v
-copied at n v scratch full none e = rest_of at 20 scratch full ∙ done n none e
+pub loop-at-init : goal.loop-at-init
+loop-at-init c =
+    let k = c.ilog10.result in
+    let v = c.args.v in
+    let counted : k + 1 ≡ length (decimal v) = decimal_count k v _ c.max.ensures c.ilog10.ensures.power_le c.ilog10.ensures.next_power_gt in
+    record { counted = counted; digits = begin v k c.args.out.now counted }
 
-pub loop-n-init : goal.loop-n-init
-loop-n-init c = (search rules, search rules, refl, start c.args.v _ c.digit.ensures)
-
-pub loop-n-preserved : goal.loop-n-preserved
-loop-n-preserved c =
-    let l = c.loop-n in
-    let h : 0 < l.at = some l.n l.at c.loop-n-test.true l.invariant.1 in
-    (omega arith, fewer l.n l.at h l.invariant.1, simp length-set l.invariant.2, turn l.scratch l.at l.n _ h (omega arith) c.loop-n-test.true c.digit-in-loop-n.ensures l.invariant.3)
+pub loop-at-preserved : goal.loop-at-preserved
+loop-at-preserved c =
+    let l = c.loop-at in
+    let back : l.at ≡ suc (l.at - 1) = omega arith in
+    record { counted = l.invariant.counted; digits = turn (l.at - 1) l.n _ (rw back at l.invariant.digits) (omega arith) c.digit.ensures }
 
 pub returns : goal.returns
-returns c = let l = c.loop-n in rw (copied l.at l.n c.args.v l.scratch l.invariant.2 c.loop-n-test.false l.invariant.3) at c.put_bytes.ensures
+returns c = let zero : c.loop-at.at ≡ 0 = omega arith in done c.loop-at.n (rw zero at c.loop-at.invariant.digits) c.loop-at.invariant.counted

@@ -4,5 +4,4 @@ use Rattle.units.proofs.frequency.put_centihertz.Goals as goal
 
 pub returns : goal.returns
 unfolding centihertz
-returns c =
-    c.put_short-a.ensures then c.put_fraction.ensures
+returns c = rw c.from-n.ensures at (c.put_short-a.ensures then c.put_fraction.ensures)
