@@ -3,6 +3,7 @@ ghost use Rattle.std.specs.Prelude.{[], ◌≡◌, get_or};
 ghost use Rattle.call_check.specs.Starts.{absent, starts_in, starts_of, noted};
 
 // What document 01 calls the starts of the record: of 01, 02, 03, 04, 05, 07, 0E or 10, 09 and 0F; 65,535 for an absent block.
+// Fields and no array: `starts_in` and the laws name them.
 #[derive(Clone, Copy)]
 pub struct Starts {
     pub file: u16,
@@ -16,7 +17,7 @@ pub struct Starts {
     pub logger: u16,
 }
 
-// A number and no Option: the record has it, and C is given it (include/meter.h).
+// A number and no Option: the record has it, and C is given it (METER_ABSENT of include/meter.h).
 pub const ABSENT: u16 = 65535;
 
 impl Starts {

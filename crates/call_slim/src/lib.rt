@@ -32,7 +32,8 @@ fn known_from(known: Setup, file: &[u8], block: Block) -> Setup
     known.learnt(block.words(file))
 }
 
-// How many words of the slim copy are a block and its raw contents.
+// How many words of the slim copy are a block and its raw contents. What is known, the file and the block stay parameters: no plainer as a
+// struct, since each call in the two loops is one line.
 fn part_words(known: Setup, file: &[u8], block: Block) -> usize
     requires { Within (words_of file.now) known block.start block.length }
     ensures { result ≡ length (part_words known (part_at (words_of file.now) block.start block.length)) }
@@ -45,7 +46,7 @@ fn part_words(known: Setup, file: &[u8], block: Block) -> usize
     slim_words(b, row) + raw_words(b)
 }
 
-// Writes these words.
+// Writes the words that `part_words` counts.
 fn put_part(out: &mut [u8], known: Setup, file: &[u8], block: Block) -> usize
     requires { Within (words_of file.now) known block.start block.length × HasRoom (part_words known (part_at (words_of file.now) block.start block.length)) out.old }
     ensures { WroteWords (part_words known (part_at (words_of file.now) block.start block.length)) out.old out.new result }

@@ -1,4 +1,5 @@
-// Writing what comes of a file: under another name first, and renamed when it is complete.
+// Writing what comes of a file: under another name first, and renamed when it is complete. Handles and what is lent stay parameters of
+// their own, and paths are made in arrays of a fixed length, for the desk has no heap.
 ghost use Rattle.std.specs.Prelude.{[], ◌≡◌, ◌+◌, ◌≤◌, length, List, ℕ, IfOk};
 ghost use Rattle.text.specs.Text.{Wrote};
 ghost use Rattle.desk_files.specs.declared.Task.TheVariants.{Sheets, Slims};
@@ -109,6 +110,7 @@ fn write_sheet<W: Write>(
     ensures { Said (outcome_of Sheets file.now label.now) (told file.now result) }
 {
     let mut n = 0;
+    // No plainer: only the part that finishes the sheet says that it was the last.
     loop {
         let p = sheet(file, label, n, out)?;
         to.write_all(&out[0..p.bytes])?;
@@ -129,6 +131,7 @@ fn write_slim<W: Write>(to: &mut W, file: &[u8], out: &mut [u8]) -> Result<Outco
     Ok(Outcome::Copied { bytes })
 }
 
+#[tactic(auto, using(crate::proofs::DeskLaws::slim_label), unfolding(crate::specs::Desk::task_of))]
 fn write<W: Write>(
     form: Form,
     to: &mut W,
@@ -165,6 +168,7 @@ fn complete<R: Files>(rt: &R, to: R::File, part: &[u8], path: &[u8]) -> Result<(
 }
 
 // What was written is kept where all of it was, and removed otherwise, where the system lets it be.
+#[tactic(auto, using(crate::specs::Desk::as_due, crate::specs::Desk::unwritten), unfolding(crate::specs::Desk::told))]
 fn keep<R: Files>(
     rt: &R,
     to: R::File,
@@ -186,6 +190,7 @@ fn keep<R: Files>(
     written
 }
 
+#[tactic(auto, using(crate::specs::Desk::unwritten), unfolding(crate::specs::Desk::told))]
 fn make<R: Files>(
     rt: &R,
     process: Process,
@@ -203,6 +208,7 @@ fn make<R: Files>(
     keep(rt, to, written, &scratch[0..len], order.path)
 }
 
+// What came of a file by what writing it gave.
 #[tactic(auto, unfolding(crate::specs::Desk::told))]
 fn told(file: &[u8], written: Result<Outcome, Fault>) -> Outcome
     ensures { result ≡ told file.now written }
@@ -218,6 +224,7 @@ fn told(file: &[u8], written: Result<Outcome, Fault>) -> Outcome
 }
 
 // The sheet or the slim copy of an accepted file, where its target is free.
+#[tactic(auto, using(crate::specs::Desk::free, crate::specs::Desk::kept))]
 pub fn save<R: Files>(
     rt: &R,
     process: Process,

@@ -6,7 +6,8 @@ ghost use Rattle.text.specs.Ascii.{ascii};
 ghost use Rattle.text.specs.Decimal.{decimal};
 ghost use Rattle.text.specs.Text.{Wrote, named};
 ghost use Rattle.desk_words.specs.Meanings.{cause};
-ghost use Rattle.desk_lines.specs.Notices.{printed, printed_name, taken, outcome, place, older, notice, fate_of, no_tally, one_more, total, not_begun, summary, fate_byte, again_words, again};
+ghost use Rattle.std.specs.IoError.{raw_os_error};
+ghost use Rattle.desk_lines.specs.Notices.{error_number, printed, printed_name, taken, outcome, place, older, notice, fate_of, no_tally, one_more, total, not_begun, summary, fate_byte, again_words, again};
 
 use desk_words::{Front, put_cause, put_refusal};
 use file_refusal::Refusal;
@@ -21,10 +22,12 @@ pub struct Errno {
 }
 
 impl From<Error> for Errno {
+    ghost from_gives = { λ error errno. errno.number ≡ error_number (raw_os_error error) };
+
     // 5, a fault of the disk, where the system names none.
-    fn from(e: Error) -> Errno {
-        let number = match e.raw_os_error().map(u16::try_from) {
-            Some(Ok(number)) if number != 0 => number,
+    fn from(error: Error) -> Errno {
+        let number = match error.raw_os_error() {
+            Some(code @ 1..=65535) => code as u16,
             _ => 5,
         };
         Errno { number }
@@ -142,6 +145,7 @@ fn print_byte(b: u8) -> u8
     }
 }
 
+#[tactic(auto, unfolding(crate::specs::Notices::printed_name))]
 fn put_name(out: &mut [u8], name: &[u8]) -> usize
     requires { length name.now ≤ length out.old }
     ensures { Wrote (printed_name name.now) (length name.now) out.old out.new result }
@@ -227,6 +231,7 @@ fn put_place(out: &mut [u8], i: usize, files: usize, name: &[u8]) -> usize
     b + put_within(&mut out[b..], b" ", name, b": ")
 }
 
+#[tactic(auto, using(text::proofs::Writing::at_most), unfolding(crate::specs::Notices::older))]
 fn put_older(out: &mut [u8], path: &[u8], there: bool) -> usize
     requires { 26 + length path.now ≤ length out.old }
     ensures { Wrote (cond there (older path.now) []) (26 + length path.now) out.old out.new result }
@@ -237,7 +242,8 @@ fn put_older(out: &mut [u8], path: &[u8], there: bool) -> usize
     0
 }
 
-// The line of a file; `there` says that a sheet or a slim copy stands at `path` from before.
+// The line of a file; `there` says that a sheet or a slim copy stands at `path` from before. Its parts stay parameters: the clause names
+// them.
 pub fn put_notice(
     out: &mut [u8],
     i: usize,
@@ -298,6 +304,7 @@ fn put_not_begun(out: &mut [u8], n: usize) -> usize
 }
 
 // The last line; `word` says what was done with the files that got through.
+#[tactic(auto, unfolding(crate::specs::Notices::total))]
 pub fn put_summary(out: &mut [u8], files: usize, word: &[u8], t: Tally) -> usize
     requires { (154 + length word.now ≤ length out.old) × (total t ≤ files) }
     ensures { Wrote (summary files word.now t) (154 + length word.now) out.old out.new result }

@@ -15,12 +15,13 @@ use std::fs::Files;
 // whether a pipe or a device stands there.
 #[derive(Clone, Copy, PartialEq, Eq, Debug)]
 pub struct Mark {
+    // Flags and no enum: `target_at` and `fetch` answer for any of them together.
     pub pipe: bool,
     pub claimed: bool,
     pub blocked: bool,
 }
 
-// What is written of a file.
+// What is written of a file. A match chooses by it, and no closure: the clauses of `target_at` and of `save` name it.
 #[derive(Clone, Copy, PartialEq, Eq, Debug)]
 pub enum Form {
     Sheet,
@@ -101,7 +102,7 @@ fn is_absent(error: Errno) -> bool
     matches!(error.number, 2 | 20 | 36)
 }
 
-// A target that was not.
+// A target that could not be read, by the error.
 #[tactic(auto, unfolding(crate::specs::Target::by_error))]
 fn by_error(error: Errno) -> Result<(), Taken>
     ensures { result ≡ by_error error }
@@ -144,7 +145,8 @@ fn look<R: Files>(
     }
 }
 
-// Whether `path`, whose device and inode is `id`, may be written, or by what it is taken.
+// Whether `path`, whose device and inode is `id`, may be written, or by what it is taken. Its parameters stay each by itself: the
+// struct that holds them, `Order`, is of the crate above.
 pub fn target_at<R: Files>(
     rt: &R,
     form: Form,

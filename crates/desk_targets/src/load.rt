@@ -13,7 +13,7 @@ const EILSEQ: Errno = Errno { number: 84 };
 // The system's number for a pipe.
 const ESPIPE: Errno = Errno { number: 29 };
 
-// A number of the system's; 0 for one below.
+// A number of the system's; 0 for one below. Nothing here asks for it any more, but a public function stays.
 pub fn natural(n: i32) -> u32 {
     u32::try_from(n).unwrap_or(0)
 }
@@ -35,6 +35,7 @@ pub fn load_open<R: Read>(from: &mut R, held: &mut [u8]) -> Result<usize, Errno>
     ensures { Fits (length held.new) result }
 {
     let mut at = 0;
+    // No plainer: the library's `read_to_end` needs a heap, and its `read_exact` takes the end of the file for an error.
     while at < held.len() {
         match from.read(&mut held[at..])? {
             0 => return Ok(at),

@@ -4,7 +4,8 @@ ghost use Rattle.file_order.specs.Order.{key_of, either, only, is_due, passed_ov
 
 use crate::setup::Setup;
 
-// The blocks that may come next, by their keys. Where fewer than three are due, the last is named again.
+// The blocks that may come next, by their keys. Where fewer than three are due, the last is named again. No list: the definitions
+// `either`, `only` and `is_due` have three fields.
 #[derive(Clone, Copy)]
 pub struct Due {
     pub one: u16,

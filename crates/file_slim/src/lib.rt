@@ -86,7 +86,8 @@ fn put_head(out: &mut [u8], b: &[u8], row: Row) -> usize
     a + put_word(&mut out[a..], word(b, 1))
 }
 
-// The sub-blocks at the front of some words, each cut to its least words.
+// The sub-blocks at the front of some words, each cut to its least words. Beside the loops of file_read and file_rules over sub-blocks:
+// no plainer as one, since one finds, one refuses and one writes.
 fn put_records(out: &mut [u8], b: &[u8], row: Row) -> usize
     requires { Sound row × HasRoom (flatten (slim_records row.subs.least row.subs.count (words_of b.now))) out.old }
     ensures { WroteWords (flatten (slim_records row.subs.least row.subs.count (words_of b.now))) out.old out.new result }

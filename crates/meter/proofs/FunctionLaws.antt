@@ -4,6 +4,7 @@ use mathlib.Core.List.{List, []}
 use mathlib.Core.Path.{◌≡◌, refl, ap}
 use Prim.Native.Nat.{ℕ, ◌≤◌}
 use native.Mathlib.Omega.{arith}
+use Rattle.std.proofs.lemmas.Bool.Decides.{nat_tests}
 use lib.Dec.{eqb, lit≤}
 use lib.ListN.{get_or}
 use borrow.Author.Tests.{eqb-true, eqb-false, ne_eqb}
@@ -26,12 +27,8 @@ obeyed_one_of : (b : List ℕ) (off one two three num n : ℕ) → one ≤ n →
 unfolding obeyed allows in_force
 obeyed_one_of b off one two three num n p q r e =
     let w = get_or b off 0 in
-    go (eqb w one) (eqb w two) refl refl (cond_first (eqb w one || (eqb w two || eqb w three)) e no_bad).0
-  where
-    go : (t u : Bool) → eqb (get_or b off 0) one ≡ t → eqb (get_or b off 0) two ≡ u → (t || (u || eqb (get_or b off 0) three)) ≡ true → get_or b off 0 ≤ n
-    go true u t-is u-is h = omega (arith, eqb-true _ one t-is)
-    go false true t-is u-is h = omega (arith, eqb-true _ two u-is)
-    go false false t-is u-is h = omega (arith, eqb-true _ three h)
+    let h : (eqb w one || (eqb w two || eqb w three)) ≡ true = (cond_first (eqb w one || (eqb w two || eqb w three)) e no_bad).0 in
+    grind (arith, nat_tests)
 
 -- a good block 04 has a function up to 4
 kept_function : (s : Setup) (b : List ℕ) → low (get_or b 0 0) ≡ 0x04 → kept (row_for s (get_or b 0 0)) b ≡ Ok tt → get_or b 3 0 ≤ 4

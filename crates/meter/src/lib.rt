@@ -14,6 +14,8 @@ use call_slim::slim;
 use call_title::{Span, title_at};
 use std::array;
 
+// The C interface: four functions and their structs, in which 0 or a flag stands for what an answer does not have.
+
 // Check's answer. `refusal` is 0 for an accepted file; `function` is 1 to 4, and 0 in a refused file; `starts` are those of 01, 02, 03,
 // 04, 05, 07, 0E or 10, 09 and 0F, 65,535 for an absent block and in a refused file.
 #[repr(C)]

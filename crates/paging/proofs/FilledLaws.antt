@@ -3,7 +3,7 @@
 use mathlib.Core.Bool.{Bool, true, false, cond}
 use mathlib.Core.List.{List, [], ◌∷◌, ◌++◌, append-nil}
 use mathlib.Core.Path.{◌≡◌, refl, sym, ap, ◌∙◌}
-use Prim.Native.Nat.{ℕ, zero, suc, ◌+◌, ◌-◌, ◌≤◌, ◌<◌, zero-le}
+use Prim.Native.Nat.{ℕ, suc, ◌+◌, ◌-◌, ◌≤◌, ◌<◌, zero-le}
 use native.Mathlib.Nat.{zero-add, sub-zero, not-suc-le-zero, le_of_suc-le-suc}
 use native.Mathlib.Omega.{arith}
 use borrow.Author.Tests.{eq-eqb, ne_eqb, eqb-true, eqb-false, le-leb, lt-leb}
@@ -12,6 +12,7 @@ use lib.Dec.{leb}
 use lib.ListN.{length, take, length-append}
 use lib.Seq.{take_all}
 use Rattle.paging.specs.declared.fit.Progress.{Progress}
+use Rattle.std.proofs.lemmas.List.{take-append-le}
 use Rattle.std.specs.Prelude.{Some, None}
 use Rattle.paging.specs.Fit.{fit, joined, TriedTo, Filled}
 use Rattle.text.specs.Text.{Wrote}
@@ -57,11 +58,6 @@ fit_stops room (l ∷ xs) ys h = go (leb (length l) room) h (fit_stops (room - l
 
 -- ---- lists
 
-take_front : {A : Type 0} (n : ℕ) (xs ys : List A) → n ≤ length xs → take n (xs ++ ys) ≡ take n xs
-take_front zero xs ys h = refl
-take_front (suc n) [] ys h = absurd (not-suc-le-zero h)
-take_front (suc n) (x ∷ xs) ys h = ap (λ l. x ∷ l) (take_front n xs ys (le_of_suc-le-suc h))
-
 joined_last : (xs : List (List ℕ)) (l : List ℕ) → joined (xs ++ (l ∷ [])) ≡ joined xs ++ l
 unfolding joined
 joined_last xs l = joined_append xs (l ∷ []) ∙ ap (λ (t : List ℕ). joined xs ++ t) (append-nil l)
@@ -84,7 +80,7 @@ module _ {xs : List (List ℕ)} {d e : List ℕ} {p : Progress} (w : Filled xs d
       let some = filled_some f in
       record {
         most = w.most ∙ sym (fit_stops (length d) xs ys (omega (arith, w.most)));
-        wrote = text_is w.wrote (ap joined (sym (take_front p.lines xs ys (omega arith))));
+        wrote = text_is w.wrote (ap joined (sym (take-append-le p.lines xs ys (omega arith))));
         finished = f ∙ sym (ne_eqb p.lines (length (xs ++ ys)) (λ q. omega (arith, length-append xs ys)));
       }
 
@@ -122,6 +118,6 @@ module _ {xs : List (List ℕ)} {d e : List ℕ} {p : Progress} (w : Filled xs d
           most = omega (arith, onward (l ∷ ys), ap {B = ℕ} (λ b. cond b (suc (fit (length d - p.bytes - length l) ys)) 0) (lt-leb (length l) (length d - p.bytes) (omega (arith, t.0))));
           wrote =
               rw (t.1, put_same)
-              (text_is whole (ap joined (sym (take_all p.lines xs (omega (arith, filled_all f))) ∙ sym (take_front p.lines xs (l ∷ ys) (omega (arith, filled_all f))))));
+              (text_is whole (ap joined (sym (take_all p.lines xs (omega (arith, filled_all f))) ∙ sym (take-append-le p.lines xs (l ∷ ys) (omega (arith, filled_all f))))));
           finished = sym (ne_eqb p.lines (length (xs ++ (l ∷ ys))) (λ q. omega (arith, filled_all f, length-append xs (l ∷ ys))));
         }

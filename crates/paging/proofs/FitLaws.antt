@@ -1,13 +1,13 @@
 -- Laws of whole lines: what `fit` means, one line more, and the lines of a list.
 use mathlib.Core.Bool.{Bool, true, false, cond}
 use mathlib.Core.Path.{◌≡◌, refl, sym, ap, ap₂, ◌∙◌}
-use mathlib.Core.List.{List, [], ◌∷◌, ◌++◌, append_assoc, map}
-use Prim.Native.Nat.{ℕ, zero, suc, ◌-◌, ◌≤◌, ◌<◌, zero-le}
+use mathlib.Core.List.{List, [], ◌∷◌, ◌++◌, append_assoc}
+use Prim.Native.Nat.{ℕ, suc, ◌-◌, ◌≤◌, ◌<◌, zero-le}
 use native.Mathlib.Nat.{not-suc-le-zero, le_of_suc-le-suc}
 use native.Mathlib.Omega.{arith}
 use borrow.Author.Tests.{leb-true, leb-false}
 use lib.Dec.{eqb, leb}
-use lib.ListN.{length, get_or, take, length-append}
+use lib.ListN.{length, take, length-append}
 use Rattle.paging.specs.declared.fit.Progress.{Progress}
 use Rattle.paging.specs.Fit.{fit, joined, Filled}
 use Rattle.text.proofs.Writing.{text_is, wrote_one}
@@ -43,13 +43,6 @@ pub joined_append : (ls ms : List (List ℕ)) → joined (ls ++ ms) ≡ joined l
 unfolding joined
 joined_append [] ms = refl
 joined_append (l ∷ ls) ms = ap (λ t. l ++ t) (joined_append ls ms) ∙ sym (append_assoc l (joined ls) (joined ms))
-
--- ---- the lines of a list's elements
-
-pub map_at : {A : Type 0} (f : A → List ℕ) (xs : List A) (i : ℕ) (z : A) → i < length xs → get_or (map f xs) i [] ≡ f (get_or xs i z)
-map_at f [] i z h = absurd (not-suc-le-zero h)
-map_at f (x ∷ xs) zero z h = refl
-map_at f (x ∷ xs) (suc i) z h = map_at f xs i z (le_of_suc-le-suc h)
 
 -- ---- two calls that filled an output with the same lines did the same
 

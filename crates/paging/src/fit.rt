@@ -4,7 +4,7 @@ ghost use Rattle.paging.specs.Fit.{TriedTo, Puts};
 
 use text::put::put_bytes;
 
-// How far a call came. Lines and bytes are counted whether it is finished or not, so the flag makes no Option of them.
+// How far a call came. The flag is no plainer as an Option: lines and bytes count in both cases.
 #[derive(Clone, Copy, PartialEq, Eq, Debug)]
 pub struct Progress {
     pub lines: u32,

@@ -1,4 +1,6 @@
 // What the programs print of the answers of Title, Slim and Sheet.
+// No heap: files, labels, copies and lines stand in arrays of a fixed length, of which a part is filled.
+// What may not change: `print_sheet` cannot fail and goes on where a write fails, so printing answers a bool and no error.
 #![tactic(auto)]
 
 ghost use Rattle.std.specs.Prelude.{◌<◌, IfSome};
@@ -50,18 +52,13 @@ fn print_lines<'a, P: Print>(
     }
 }
 
-// All lines, as many at a time as fit into `out`.
-fn print_all<'a, P: Print>(rt: &P, file: &'a [u8], label: &'a [u8], out: &mut [u8]) {
-    let mut n = 0;
-    while let Some(next) = print_lines(rt, file, label, n, out) {
-        n = next;
-    }
-}
-
-// Prints a file's whole sheet, or the line of its refusal.
+// Prints a file's whole sheet, as many lines at a time as fit, or the line of its refusal.
 pub fn print_sheet<'a, P: Print>(rt: &P, file: &'a [u8], label: &'a [u8]) -> bool {
     let mut out = [0u8; 65536];
-    print_all(rt, file, label, &mut out);
+    let mut n = 0;
+    while let Some(next) = print_lines(rt, file, label, n, &mut out) {
+        n = next;
+    }
     true
 }
 

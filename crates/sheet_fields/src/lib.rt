@@ -21,7 +21,8 @@ use units::frequency::{Centihertz, put_centihertz};
 use units::level::{Tenths, put_tenths};
 use words::{Three, count, word};
 
-// Fields after a comma: no plainer as one function over a closure, since each is two lines that the check proves alone, and a call with a closure is no shorter.
+// Fields after a comma: no plainer as one function over a closure, since each is two lines that the check proves alone, and a call with a
+// closure is no shorter. The three values of a row stay parameters: the clauses of `put_seconds`, `put_cells` and `put_times` name them.
 
 // Tenths of a decibel after a comma.
 pub fn put_decibels(out: &mut [u8], t: Tenths) -> usize
@@ -110,7 +111,7 @@ fn put_column(out: &mut [u8], p: u16, code: u16, filter: u16) -> usize
     a + put_buffer_column(&mut out[a..], p, code, filter)
 }
 
-// The columns of the three profiles.
+// The columns of the three profiles. Codes and filters are not taken together: the clause has them apart.
 pub fn put_columns(out: &mut [u8], codes: Three, filters: Three) -> usize
     requires { 60 ≤ length out.old }
     ensures { Wrote (further (buffer_column 1 codes.first filters.first ++ buffer_column 2 codes.second filters.second ++ buffer_column 3 codes.third filters.third)) 60 out.old out.new result }
@@ -151,7 +152,7 @@ pub fn put_band_columns(out: &mut [u8], bands: u16, totals: u16) -> usize
     a + put_column_names(&mut out[a..], b'T', totals)
 }
 
-// The levels of all the words.
+// The levels of all the words; by number, since a part of a file is bytes, and `word` reads its words.
 pub fn put_levels(out: &mut [u8], words: &[u8]) -> usize
     requires words_len_bound { length (words_of words.now) ≤ 51 }
     requires in_bounds { 663 ≤ length out.old }
@@ -164,7 +165,7 @@ pub fn put_levels(out: &mut [u8], words: &[u8]) -> usize
     at
 }
 
-// A result's word after a comma.
+// A result's word after a comma, by the kind that its entry has.
 fn put_result_field(out: &mut [u8], number: Number, word: u16) -> usize
     requires { 21 ≤ length out.old }
     ensures { Wrote (ascii "," ++ result_field number word) 21 out.old out.new result }

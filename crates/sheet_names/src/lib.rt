@@ -9,7 +9,7 @@ ghost use Rattle.sheet_names.specs.Names.{profile_filters, buffer_codes, spectru
 use text::decimal::put_short;
 use text::put::{put_byte, put_bytes};
 
-// Three tables of one shape, which are data: no plainer as one function, since each call would bring its table as a match of its own.
+// Three tables of one shape, which are data: no plainer as one function, since each call would bring its own table.
 #[tactic(auto, unfolding(text::specs::Text::named, crate::specs::Names::profile_filters))]
 fn put_profile_filter(out: &mut [u8], code: u16) -> usize
     requires { 3 ≤ length out.old }
@@ -54,6 +54,7 @@ fn put_octave_filter(out: &mut [u8], code: u16) -> usize
     }
 }
 
+// The model, the profile and the codes are the file's numbers, no enums: the clauses of these public functions take them so.
 pub fn put_spectrum_filter(out: &mut [u8], model: u16, code: u16) -> usize
     requires { 3 ≤ length out.old }
     ensures { Wrote (named (spectrum_filters model) code) 3 out.old out.new result }

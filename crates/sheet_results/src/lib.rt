@@ -134,6 +134,7 @@ pub fn all_results() -> [Entry; 21]
     RESULTS
 }
 
+// The model and the function are the file's numbers, no enums: the clauses of `first_result` and `result_count` take them so.
 // Where a model's results start in it.
 pub fn first_result(model: u16) -> usize
     ensures { result ≡ columns model 0 11 }

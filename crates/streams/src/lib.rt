@@ -21,19 +21,20 @@ pub fn read_full<R: Read>(from: &mut R, held: &mut [u8]) -> usize
     at
 }
 
-// Whether all bytes were written.
+// Whether all bytes were written; no plainer as a Result, since no caller asks for the error.
 pub fn write_all<P: Print>(to: &P, bytes: &[u8]) -> bool {
     to.write_all(bytes).is_ok()
 }
 
-// Argument i at the front of `held`, and its length; 0 where there is none, or where it is longer.
+// Argument i at the front of `held`, and its length; 0 where there is none, or where it is longer: no plainer as an Option, since to
+// the callers an absent argument is an empty one.
 pub fn arg<E: Env>(rt: &E, i: usize, held: &mut [u8]) -> usize
     ensures { result ≤ length held.new }
 {
     rt.arg(i, held).unwrap_or(0)
 }
 
-// How many arguments there are, the program's name among them, and `most` where there are more.
+// How many arguments there are, the program's name among them, and `most` where there are more. By number, which is how one is asked for.
 pub fn arg_count<E: Env>(rt: &E, most: usize) -> usize
     ensures { result ≤ most }
 {

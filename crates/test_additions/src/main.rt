@@ -1,6 +1,7 @@
 // Compares what the calls reply to both files of each pair of the pack on standard input, whose items are a name, a label, a file
 // (an empty one stands for the file before it) and the same file with additions. Prints whether that is another file, whether Check
 // accepts it, and whether Sheet, Slim and Title reply to it just as they do to the file itself.
+// No heap: items and answers stand in arrays of a fixed length, of which a part is filled.
 #![tactic(auto)]
 
 ghost use Rattle.std.specs.Prelude.{◌≤◌, length};
@@ -142,7 +143,8 @@ fn main(rt: HostRuntime) {
     let mut name = [0u8; 255];
     let mut file = [0u8; 65538];
     let mut size = 0;
-    // A proved loop has to end, and nothing says that the input does: a pack has at most a million pairs.
+    // A proved loop has to end, and nothing says that the input does: a pack has at most a million pairs. A loop beside that of
+    // test_calls: no plainer as one function, which would take a closure over all that is kept from one item to the next.
     for _ in 0..1000000 {
         let n = read_item(&mut pack, &mut name);
         if n == 0 {

@@ -1,6 +1,7 @@
 // Asks what the items of the pack on standard input say, five to a question: a call by its name, a name, a label, a file, and
 // eight bytes or none, a line number and the size of the output, both low byte first. An empty file stands for the file before
 // it, but for `check` it is an empty file. Prints the name as it stands and what the call answers. An empty call ends the pack.
+// No heap: items and answers stand in arrays of a fixed length, of which a part is filled.
 #![tactic(auto)]
 
 mod lines;

@@ -1,4 +1,4 @@
-// Runs the desk on its data, task by task, and prints back what is there then.
+// Runs the desk on its data, task by task, and prints back what is there then. No heap: all stands in arrays of a fixed length.
 #![tactic(auto)]
 
 ghost use Rattle.std.specs.Prelude.{◌≤◌};
@@ -28,25 +28,10 @@ fn say_all<P: Print>(rt: &P, all: bool) -> bool {
 }
 
 // A run of the desk; the names that did not get through stand on standard output too.
-fn run<R: Env + Files + Print>(
-    rt: &R,
-    process: Process,
-    task: Task,
-    quiet: bool,
-    label: &[u8],
-    first: usize,
-    files: usize,
-    ids: &[u8],
-) -> bool
-    requires { (files ≤ 16384) × (first ≤ 16384) }
+fn run<R: Env + Files + Print>(rt: &R, process: Process, job: Job, label: &[u8], ids: &[u8]) -> bool
+    requires { (job.files ≤ 16384) × (job.first ≤ 16384) }
 {
     let mut line = [0u8; 12514];
-    let job = Job {
-        task,
-        quiet,
-        first,
-        files,
-    };
     let end = serve_all(rt, process, job, label, ids, &mut line, rt);
     say_all(rt, end.all)
 }
@@ -87,19 +72,29 @@ fn try_all<R: Env + Files + Print>(rt: &R, process: Process, files: usize, ids: 
     allow(rt, b"hidden.svn.csv", 0);
     allow(rt, b"hidden.svn.slim", 0);
     allow(rt, b"locked", 0o555);
-    run(rt, process, Task::Checks, false, b"", 1, files, ids);
-    run(
-        rt,
-        process,
-        Task::Slims,
-        false,
-        b"",
-        1 + 4 * files,
+    let checks = Job {
+        task: Task::Checks,
+        quiet: false,
+        first: 1,
         files,
-        ids,
-    );
-    run(rt, process, Task::Sheets, false, b"Order 17", 1, files, ids);
-    run(rt, process, Task::Sheets, true, b"Order 17", 1, files, ids);
+    };
+    let slims = Job {
+        task: Task::Slims,
+        first: 1 + 4 * files,
+        ..checks
+    };
+    let sheets = Job {
+        task: Task::Sheets,
+        ..checks
+    };
+    let quiet = Job {
+        quiet: true,
+        ..sheets
+    };
+    run(rt, process, checks, b"", ids);
+    run(rt, process, slims, b"", ids);
+    run(rt, process, sheets, b"Order 17", ids);
+    run(rt, process, quiet, b"Order 17", ids);
     allow(rt, b"locked", 0o755);
     let mut scratch = [0u8; 65536];
     print_all(rt, 2 * files, &mut scratch);

@@ -8,7 +8,7 @@ use lib.ListN.{length, get_or, take, length-append}
 use lib.Seq.{take-suc}
 use Rattle.units.specs.declared.frequency.Centihertz.{Centihertz}
 use Rattle.units.specs.Frequency.{thirds}
-use Rattle.paging.proofs.FitLaws.{map_at}
+use Rattle.std.proofs.lemmas.List.{get_or-map}
 use Rattle.test_numbers.specs.Rows.{band_line, band_lines}
 
 pub lines_length : length band_lines ≡ 45
@@ -27,5 +27,5 @@ line_some f = rw length-append (omega arith)
 pub lines_next : (bands : List Centihertz) (i : ℕ) (z : Centihertz) → bands ≡ thirds → i < 45 → take i band_lines ++ (band_line (get_or bands i z) ∷ []) ≡ take (i + 1) band_lines
 unfolding band_lines
 lines_next bands i z e h =
-    let there = map_at band_line thirds i z (omega (arith, thirds_length)) in
+    let there = get_or-map band_line thirds i z [] (omega (arith, thirds_length)) in
     rw (e, ← there, add-one i, take-suc band_lines i [] (omega (arith, lines_length)))

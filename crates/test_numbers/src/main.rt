@@ -1,4 +1,5 @@
-// One row of each kind of text, from literal values, and the lines of the 1/3 octave bands as many at a time as fit.
+// One row of each kind of text, from literal values, and the lines of the 1/3 octave bands as many at a time as fit. No heap: a text is
+// made in an array of a fixed length.
 #![tactic(auto)]
 
 ghost use denote.Ref.{MutBor};

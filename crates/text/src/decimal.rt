@@ -26,6 +26,7 @@ fn put_digits(out: &mut [u8], v: u64) -> usize
 {
     let count = v.max(1).ilog10() as usize + 1;
     let mut n = v;
+    // Tried with `out[..count].iter_mut().rev()`: the proof did not close, since after an adapter of `iter_mut` no element of out is known, only its length.
     for at in (0..count).rev() {
         out[at] = digit(n);
         n /= 10;
@@ -41,7 +42,7 @@ pub fn put_decimal(out: &mut [u8], v: u64) -> usize
     put_digits(out, v)
 }
 
-// A number of at most nine digits. Beside `put_decimal` for its clause: the lesser room is what the rooms of its callers rest on.
+// A number of at most nine digits. It stays beside `put_decimal`: its clause asks for 9 bytes, on which the rooms of its callers rest.
 pub fn put_short(out: &mut [u8], v: u64) -> usize
     requires v_bound { v < 10 ^ 9 }
     requires in_bounds { 9 ≤ length out.old }

@@ -24,6 +24,7 @@ pub fn put_mapped<F: Fn(u8) -> u8>(out: &mut [u8], src: &[u8], f: F) -> usize
     requires callable { F.IsAlwaysCallable f }
     ensures { (g : ℕ → ℕ) → ((b r : ℕ) → b < 256 → F.post f b r → r ≡ g b) → Wrote (map g src.now) (length src.now) out.old out.new result }
 {
+    // Tried with `out.iter_mut().zip(src)`: the proof did not close, since after an adapter of `iter_mut` no element of out is known, only its length.
     for (i, b) in src.iter().enumerate() {
         out[i] = f(*b);
     }

@@ -1,4 +1,6 @@
-// Prints the answer of Check to the file on standard input.
+// Prints the answer of Check to the file on standard input. It reads as the programs of print_calls do: no plainer as one more public
+// function there.
+// No heap: the file and its line stand in arrays of a fixed length, of which a part is filled.
 #![tactic(auto)]
 
 use print_check::put_verdict;
@@ -9,6 +11,6 @@ fn main(rt: HostRuntime) {
     let mut file = [0u8; 65537];
     let size = read_full(&mut rt.reader(), &mut file);
     let mut line = [0u8; 199];
-    let n = put_verdict(&mut line, &file[0..size]);
-    write_all(&rt, &line[0..n]);
+    let n = put_verdict(&mut line, &file[..size]);
+    write_all(&rt, &line[..n]);
 }

@@ -6,18 +6,6 @@ use Rattle.desk_lines.specs.Notices.{summary, not_begun, total}
 use Rattle.text.proofs.Writing.{◌then◌, text_is, at_most}
 use Rattle.desk_lines.proofs.put_summary.Goals as goal
 
-pub overflow_sub-rest : goal.overflow_sub-rest
-unfolding total
-overflow_sub-rest c = search rules
-
-pub overflow_sub-rest-2 : goal.overflow_sub-rest-2
-unfolding total
-overflow_sub-rest-2 c = search rules
-
-pub overflow_sub-rest-3 : goal.overflow_sub-rest-3
-unfolding total
-overflow_sub-rest-3 c = search rules
-
 pub returns : goal.returns
 unfolding summary total
 returns c =

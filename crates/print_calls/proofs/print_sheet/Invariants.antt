@@ -1,6 +1,6 @@
--- `print_all` ends: each turn goes on by a line at least.
+-- `print_sheet` ends: each turn goes on by a line at least.
 use Rattle.std.proofs.Common.{◌-◌, ◌^◌}
-use Rattle.print_calls.proofs.print_all.Given as goal
+use Rattle.print_calls.proofs.print_sheet.Given as goal
 
 abbrev pub decreases-loop-next : goal.decreases-loop-next
 decreases-loop-next g l = 2 ^ 32 - l.n
