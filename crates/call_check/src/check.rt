@@ -9,6 +9,7 @@ use file_refusal::Refusal;
 // What document 01 calls the record: the function, and the starts of the listed blocks.
 #[derive(Clone, Copy)]
 pub struct Outline {
+    // The file's number and no enum, as in `Setup`.
     pub function: u16,
     pub starts: Starts,
 }

@@ -126,7 +126,7 @@ fn telling(form: Form) -> usize
     }
 }
 
-// A target that no earlier file has, read into `older`.
+// A target that no earlier file has, read into `older`. Its parameters stay apart, as those of `target_at`.
 fn look<R: Files>(
     rt: &R,
     form: Form,
@@ -145,8 +145,8 @@ fn look<R: Files>(
     }
 }
 
-// Whether `path`, whose device and inode is `id`, may be written, or by what it is taken. Its parameters stay each by itself: the
-// struct that holds them, `Order`, is of the crate above.
+// Whether `path`, whose device and inode is `id`, may be written, or by what it is taken. Its parameters stay apart: the struct
+// that holds them, `Order`, is of the crate above.
 pub fn target_at<R: Files>(
     rt: &R,
     form: Form,
@@ -163,6 +163,7 @@ pub fn target_at<R: Files>(
     if mark.claimed {
         return Err(Taken::Claimed);
     }
+    // No heap: it stands in an array of a fixed length.
     let mut older = [0u8; 65537];
     let k = telling(form);
     look(rt, form, input, mark.blocked, path, &mut older[0..k], out)

@@ -306,7 +306,7 @@ pub fn logger_row(bands: u16, profiles: u16) -> Row
     }
 }
 
-// A block that is not listed. As `title`, one field other than `bare`'s: no plainer as one function.
+// A block that is not listed. Like `title`, it differs from `bare` in one field: no plainer as one function.
 fn unlisted() -> Row
     ensures { result ≡ unlisted }
 {

@@ -12,7 +12,7 @@ pub struct Progress {
     pub finished: bool,
 }
 
-// A line that is made already, where it fits: its length, or no room for it.
+// A line that is made already, where it fits: its length, or none where there is no room.
 pub fn try_line(out: &mut [u8], line: &[u8]) -> Option<usize>
     ensures { TriedTo line.now out.old out.new result }
 {

@@ -7,8 +7,8 @@ ghost use Rattle.paging.specs.Run.{start_run, first_of, passed_by, writes_next, 
 use crate::fit::fit;
 
 // How many lines are still to be passed over; how many lines and bytes were written; whether every line so far that was not
-// passed over was written.
-// A run and its output stay two parameters: the clauses of the functions of the sections, which may not change, name `out.old`, `out.new` and `run`.
+// passed over was written: a flag, since lines and bytes count in both cases.
+// A run and its output stay two parameters: the clauses of the sections, as `head_section`, name `out.old`, `out.new` and `run`.
 #[derive(Clone, Copy, PartialEq, Eq, Debug)]
 pub struct Run {
     pub skip: usize,

@@ -1,6 +1,6 @@
 // What the programs print of the answers of Title, Slim and Sheet.
 // No heap: files, labels, copies and lines stand in arrays of a fixed length, of which a part is filled.
-// What may not change: `print_sheet` cannot fail and goes on where a write fails, so printing answers a bool and no error.
+// `print_sheet` goes on where a write fails and answers true, so printing answers a bool and no error.
 #![tactic(auto)]
 
 ghost use Rattle.std.specs.Prelude.{◌<◌, IfSome};

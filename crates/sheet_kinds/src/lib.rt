@@ -31,6 +31,7 @@ pub enum Line {
     },
     Time(u32),
     Overload(u32),
+    // The model is the file's number and no enum, as in `Setup`.
     BandHeading {
         model: u16,
         filter: u16,

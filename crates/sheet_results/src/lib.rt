@@ -33,7 +33,7 @@ pub enum UnitName {
     Second,
 }
 
-// What a result's words are: tenths with a sign, or whole numbers without one.
+// What a result's words are: tenths with a sign, or whole numbers without one. A match chooses by it, and no closure: `result_field` names it.
 #[derive(Clone, Copy, PartialEq, Eq)]
 pub enum Number {
     Level,
@@ -135,7 +135,7 @@ pub fn all_results() -> [Entry; 21]
 }
 
 // The model and the function are the file's numbers, no enums: the clauses of `first_result` and `result_count` take them so.
-// Where a model's results start in it.
+// Where a model's results start in `all_results`.
 pub fn first_result(model: u16) -> usize
     ensures { result ≡ columns model 0 11 }
 {

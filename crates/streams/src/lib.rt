@@ -1,4 +1,4 @@
-// Reading and writing bytes as far as they go, and the arguments of a program.
+// Reading and writing bytes as far as they go, and the arguments of a program. No heap: what is read goes into arrays of a fixed length.
 #![tactic(auto)]
 
 ghost use Rattle.std.specs.Prelude.{◌≤◌, length};

@@ -1,4 +1,4 @@
-// Sheet asked line by line with an output of 1,024 bytes, and from each line number on.
+// Sheet asked line by line with an output of 1,024 bytes, and from each line number on. No heap: outputs are arrays of a fixed length.
 ghost use Rattle.std.specs.Prelude.{◌≤◌, length, IfSome};
 
 use call_sheet::sheet;

@@ -1,5 +1,5 @@
 // Packs of test data on standard input: items one after the other, each three bytes of its length n, low byte first, and n
-// bytes.
+// bytes. No heap: an item is read into an array of the caller's.
 #![tactic(auto)]
 
 ghost use Rattle.std.specs.Prelude.{◌≤◌, length};
