@@ -39,7 +39,8 @@ told('1b fields that are flags', lines(r'^    pub \w+: bool,$'))
 told('1c fields and parameters that are numbers of kinds: num, model, function, error, fate',
      lines(r'\b(num|model|function|error|fate): (u8|u16)'))
 told('1d results that are a number of an error, or 0 or a length for none',
-     lines(r'fn (rename|complete|arg|count_files|octave_place|error|text_of|create|make_part|name_at)\b.*->'))
+     [x for x in lines(r'fn (rename|complete|arg|count_files|octave_place|error|text_of|create|make_part|name_at)\b.*->')
+      if not re.search(r'Errno|Option<', x)])
 
 # 2: functions whose bodies have one shape, names and numbers aside
 shapes = defaultdict(list)
