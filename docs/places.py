@@ -64,6 +64,9 @@ told('4a functions that compare, copy or convert by hand',
      [f'{f}: {n}' for f, n, p, b in functions()
       if re.match(r'(is_same|is_refusal|is_progress|is_slim_refusal|is_same_reply|is_same_length|is_untouched|is_done|put_bytes|fate_byte|natural|signed|magnitude|wide)$', n)])
 
+told('4b functions that write a number by its digits',
+     [f'{f}: {n}' for f, n, p, b in functions() if re.match(r'put_(digit|digits|decimal|short|fraction|centihertz|fixed|signed|tenths)$', n)])
+
 # 5: parameters
 told('5a functions with six parameters or more', [f'{f}: {n} ({p.count(":") + p.count("self")})' for f, n, p, b in functions() if p.count(':') + p.count('self') >= 6])
 told('5b functions that take a start and a length of the same part', [f'{f}: {n}' for f, n, p, b in functions() if re.search(r'start: usize,\s*len', p)])
