@@ -3,7 +3,7 @@ use Rattle.std.specs.Prelude.{Result, Ok, Err}
 use Rattle.std.specs.Bool.{Decides}
 use Rattle.std.proofs.lemmas.Slice.Eq.{compares_Decides}
 use Rattle.desk_lines.specs.declared.Taken.{Taken}
-use mathlib.Core.Bool.{Bool, false}
+use mathlib.Core.Bool.{Bool, true, false}
 use mathlib.Core.List.{List}
 use mathlib.Core.Path.{◌≡◌, refl, ap}
 use Prim.Native.Nat.{ℕ, ◌-◌, ◌≤◌}
@@ -26,6 +26,11 @@ use Rattle.desk_targets.specs.Target.{same, is_itself, is_slim, IsInput, Read, s
 same_Decides : (a b : List ℕ) → Decides (same a b) (a ≡ b)
 unfolding same
 same_Decides = compares_Decides same (search rules)
+
+-- what `is_same` answers decides it
+pub is_same_Decides : {a b : List ℕ} {r : Bool} → (r ≡ true → a ≡ b) × (r ≡ false → a ≡ b → ⊥) → Decides r (a ≡ b)
+is_same_Decides {r = true} w = (w.0, λ e. refl)
+is_same_Decides {r = false} w = (w.0, λ e. absurd (w.1 refl e))
 
 -- what a comparison answers
 pub same_is : {a b : List ℕ} {r : Bool} → Decides r (a ≡ b) → r ≡ same a b

@@ -10,6 +10,7 @@ use call_slim::slim;
 use desk_lines::{Errno, Taken};
 use load::load;
 use std::fs::Files;
+use text::read::is_same;
 
 // What is known of a file before it is opened: whether it is a pipe or a device, whether an earlier file has its target, and
 // whether a pipe or a device stands there.
@@ -32,7 +33,7 @@ pub enum Form {
 fn is_input(ids: &[u8], id: &[u8]) -> bool
     ensures { IsInput ids.now id.now result }
 {
-    ids.chunks_exact(40).any(|x| x == id)
+    ids.chunks_exact(40).any(|x| is_same(x, id))
 }
 
 fn is_sheet(bytes: &[u8]) -> bool
@@ -46,7 +47,7 @@ fn is_slim(bytes: &[u8], out: &mut [u8]) -> bool
     ensures { result ≡ is_slim bytes.now }
 {
     match slim(bytes, out) {
-        Ok(n) => &out[0..n] == bytes,
+        Ok(n) => is_same(&out[0..n], bytes),
         Err(_) => false,
     }
 }

@@ -37,6 +37,10 @@ needs_either (b ∷ l) = go (eqb b comma) (eqb b quote) (list_any (λ b. eqb b c
     go false true false v e = refl
     go false false u v e = e
 
+-- of a text as it is shown
+pub shown_either : (text : List ℕ) → needs_quotes (map shown text) ≡ (list_any (λ b. eqb b comma) text || list_any (λ b. eqb b quote) text)
+shown_either text = shown_needs text ∙ needs_either text
+
 -- a number needs none
 pub digits_need : (l : List ℕ) → Digits l → needs_quotes l ≡ false
 unfolding needs_quotes

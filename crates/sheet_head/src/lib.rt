@@ -30,6 +30,7 @@ pub fn put_number(out: &mut [u8], key: &[u8], v: u16) -> usize
 }
 
 // Whether a text holds a comma or a double quote.
+#[tactic(auto, using(crate::proofs::NeedLaws::shown_either))]
 fn needs_quotes(text: &[u8]) -> bool
     ensures { result ≡ needs_quotes (map shown text.now) }
 {

@@ -10,12 +10,12 @@ pub fn put_byte(out: &mut [u8], b: u8) -> usize
     1
 }
 
+// Not by `copy_from_slice`: it copies parts that may overlap, by C's `memmove`, and the archive for C asks for no such name.
 pub fn put_bytes(out: &mut [u8], src: &[u8]) -> usize
     requires { length src.now ≤ length out.old }
     ensures { Wrote src.now (length src.now) out.old out.new result }
 {
-    out[..src.len()].copy_from_slice(src);
-    src.len()
+    put_mapped(out, src, |b| b)
 }
 
 // What f makes of each byte of src: the text is src mapped by any g that says what f answers.

@@ -31,6 +31,9 @@ signed_word w h = grind (arith, ints)
 pub high_fits : (w : ℕ) → 32768 ≤ w → w < 65536 → SFits w16 (pos w -ℤ pos 65536)
 high_fits w h k = record { sfits = grind (arith, ints) }
 
+pub signed_fits : (w : ℕ) → w < 65536 → SFits w16 (signed w)
+signed_fits w h = rw (← signed_word w h) (record { sfits = grind (arith, ints) })
+
 -- ---- a class bound: a level and a product of a class number and a width
 
 pub product : (class width : ℕ) → class < 32768 → width < 65536 → class * width ≤ 2147385345

@@ -12,6 +12,7 @@ pub struct Tenths(pub i32);
 
 impl Tenths {
     // The level that a word holds.
+    #[tactic(auto, using(crate::proofs::SignedLaws::signed_word), unfolding(crate::specs::Level::level))]
     pub fn level(word: u16) -> Self
         ensures { result ≡ level word }
     {
@@ -24,7 +25,7 @@ impl Tenths {
         ensures { result ≡ bound bottom class width }
     {
         let above = u32::from(class) * u32::from(width);
-        Tenths(i32::from(bottom.cast_signed()) + above.cast_signed())
+        Tenths(Tenths::level(bottom).0 + above.cast_signed())
     }
 }
 

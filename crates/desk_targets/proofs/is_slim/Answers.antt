@@ -2,14 +2,12 @@
 use mathlib.Core.Path.{◌∙◌}
 use native.Mathlib.Omega.{arith}
 use borrow.Author.Rules.{rules}
-use Rattle.std.proofs.lemmas.Bool.Decides.{Decides-eqb}
-use Rattle.std.proofs.lemmas.Slice.Eq.{slice_eq-Decides}
 use Rattle.call_slim.proofs.ReplyLaws.{slimmed_fits}
-use Rattle.desk_targets.proofs.TargetLaws.{same_is, refused_not, written_same}
+use Rattle.desk_targets.proofs.TargetLaws.{is_same_Decides, same_is, refused_not, written_same}
 use Rattle.desk_targets.proofs.is_slim.Goals as goal
 
-pub slice_bounds-eq-end : goal.slice_bounds-eq-end
-slice_bounds-eq-end c =
+pub slice_bounds-is_same-end : goal.slice_bounds-is_same-end
+slice_bounds-is_same-end c =
     omega (arith, slimmed_fits c.slim.ensures _ c.in-Ok.is)
 
 pub returns-in-Err : goal.returns-in-Err
@@ -18,5 +16,5 @@ returns-in-Err c =
 
 pub returns-in-Ok : goal.returns-in-Ok
 returns-in-Ok c =
-    same_is (slice_eq-Decides Decides-eqb _ _ _ c.eq.ensures)
+    same_is (is_same_Decides c.is_same.ensures)
     ∙ written_same (λ i. search rules) (omega (arith, c.requires)) (rw c.in-Ok.is at c.slim.ensures)

@@ -21,7 +21,7 @@ by_size : (c : After-is_long) → step_at (words_of c.args.file.now) c.args.self
     ≡ stepped c.args.self.at (words_of c.rest-left.result.now) (sized c.is_long.result c.word-header.result (get_or (words_of c.rest-left.result.now) 1 0) c.count-n.result)
 unfolding step_at front_of
 by_size c =
-    let no_end : c.word-header.result ≡ end_marker → ⊥ = c.if-header.false in
+    let no_end : c.word-header.result ≡ end_marker → ⊥ = omega (arith, c.if-header.false) in
     simp (← c.count.ensures, le-ltb _ _ c.if-count-at.false, ← c.rest-left.ensures.words, ← c.count-n.ensures, ← c.word-header.ensures, sized_front c.word-header.result (get_or (words_of c.rest-left.result.now) 1 0) c.count-n.result c.if-n-eq0.false no_end, ← c.is_long.ensures)
 
 pub returns-then-count-at : goal.returns-then-count-at
